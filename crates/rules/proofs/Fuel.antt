@@ -1,0 +1,126 @@
+-- The strict verdict answers its own question: the number of empty points is deep enough. Assumes nothing.
+use mathlib.Core.Path.{_≡_, refl, sym, subst, subst⁻¹, ap, _∙_}
+use mathlib.Core.Bool.{Bool, true, false, _&&_, cond}
+use mathlib.Core.List.{List}
+use Prim.Native.Nat.{ℕ, zero, suc, _≤_, _<_}
+use native.Mathlib.Omega.{arith}
+use lib.Dec.{T}
+use lib.ListN.{length, getD, length-set}
+use Rattle.rules.specs.Numbers.{isNone}
+use Rattle.rules.specs.Point.{lineNo, pointAt}
+use Rattle.rules.specs.Grid.{isEmpty, empties, rowsThrough, eyeOn}
+use Rattle.rules.specs.Forbidden.{Ask, moreThanOne, isReal, realThrees, withBlack, isOverline, isDoubleFour, isDoubleThree, plainWith, completesFive, strictWith, strictN, strictOf, plainOf}
+use Rattle.rules.specs.declared.Player.the-variants.{Black}
+use Rattle.rules.specs.declared.RowKind.the-variants.{Two, Three}
+use Rattle.rules.specs.declared.Verdict.{Verdict}
+use Rattle.rules.specs.declared.Verdict.the-variants.{None, DoubleThree, DoubleFour, Overline}
+use Rattle.rules.proofs.Logic.{and-left, and-right, and-intro, both-ways, any-elim, any-intro}
+use Rattle.rules.proofs.Address.{point-lt, line-here}
+use Rattle.rules.proofs.Changes.{empties-put}
+use Rattle.rules.proofs.More.{TwoApart, Carried, more-carried}
+use Rattle.rules.proofs.Rows.{start-lt, eye-inside}
+
+-- ---- the plain verdict asks only about the board with Black at p, at points of the board
+
+module _ (cells : List ℕ) (p : ℕ) (hp : p < 225) (ask ask′ : Ask) (same : (e : ℕ) → e < 225 → ask cells e ≡ ask′ cells e) where
+  real-same : (d j : ℕ) → d < 4 → T (isReal ask cells p d j) → T (isReal ask′ cells p d j)
+  unfolding isReal
+  real-same d j hd u =
+      let i = lineNo d p in
+      let a = any-elim 16 (λ e. eyeOn Black Three cells d i j e && isNone (ask cells (pointAt d i e))) u in
+      let e = a .0 in
+      let hi = eye-inside Black Three cells d i j e (and-left (eyeOn Black Three cells d i j e) (isNone (ask cells (pointAt d i e))) (a .2)) in
+      any-intro 16 (λ e. eyeOn Black Three cells d i j e && isNone (ask′ cells (pointAt d i e))) e (a .1)
+      (subst (λ (v : Verdict). T (eyeOn Black Three cells d i j e && isNone v)) (same (pointAt d i e) (point-lt d i e hd (line-here d p hd hp) hi)) (a .2))
+
+  real-moves : (d j : ℕ) → d < 4 → T (realThrees ask cells p d j) → T (realThrees ask′ cells p d j)
+  unfolding realThrees
+  real-moves d j hd u =
+      and-intro (rowsThrough Black Three cells p d j) (isReal ask′ cells p d j)
+      (and-left (rowsThrough Black Three cells p d j) (isReal ask cells p d j) u)
+      (real-same d j hd (and-right (rowsThrough Black Three cells p d j) (isReal ask cells p d j) u))
+
+  real-start : (d j : ℕ) → d < 4 → T (realThrees ask cells p d j) → j < 16
+  unfolding realThrees
+  real-start d j hd u = start-lt Black Three cells p d j hd hp (and-left (rowsThrough Black Three cells p d j) (isReal ask cells p d j) u)
+
+  real-carried : Carried (realThrees ask cells p) (realThrees ask′ cells p)
+  real-carried =
+      record {
+        to = λ d. d;
+        to-lt = λ d hd. hd;
+        to-one = λ d e hd he q. q;
+        row = λ d j hd u. (j, real-start d j hd u, real-moves d j hd u);
+        rows = λ d hd w. record { j = w .j; k = w .k; far = w .far; k-lt = w .k-lt; here = real-moves d (w .j) hd (w .here); there = real-moves d (w .k) hd (w .there) };
+      }
+
+  pub real-more : T (moreThanOne (realThrees ask cells p)) → T (moreThanOne (realThrees ask′ cells p))
+  real-more u = more-carried (realThrees ask cells p) (realThrees ask′ cells p) real-carried u
+
+module _ (cells : List ℕ) (p : ℕ) (hp : p < 225) (ask ask′ : Ask)
+    (same : (e : ℕ) → e < 225 → ask (withBlack cells p) e ≡ ask′ (withBlack cells p) e) where
+  pub plain-same : plainWith ask cells p ≡ plainWith ask′ cells p
+  unfolding plainWith isDoubleThree
+  plain-same =
+      ap
+      (λ (b : Bool).
+      cond (isOverline cells p) Overline
+      (cond (isDoubleFour cells p) DoubleFour (cond (moreThanOne (rowsThrough Black Two cells p) && b) DoubleThree None)))
+      (both-ways (moreThanOne (realThrees ask (withBlack cells p) p)) (moreThanOne (realThrees ask′ (withBlack cells p) p))
+      (real-more (withBlack cells p) p hp ask ask′ same)
+      (real-more (withBlack cells p) p hp ask′ ask (λ e he. sym (same e he))))
+
+-- at an occupied point the strict verdict asks nothing
+module _ (cells : List ℕ) (p : ℕ) (hp : p < 225) (ask ask′ : Ask)
+    (same : T (isEmpty (getD cells p 0)) → (e : ℕ) → e < 225 → ask (withBlack cells p) e ≡ ask′ (withBlack cells p) e) where
+  pub strict-same : strictWith ask cells p ≡ strictWith ask′ cells p
+  unfolding strictWith
+  strict-same = at (isEmpty (getD cells p 0)) same
+    where
+      at : (b : Bool) → (T b → (e : ℕ) → e < 225 → ask (withBlack cells p) e ≡ ask′ (withBlack cells p) e)
+          → cond b (cond (completesFive cells p) None (plainWith ask cells p)) None ≡ cond b (cond (completesFive cells p) None (plainWith ask′ cells p)) None
+      at true s = ap (λ (x : Verdict). cond (completesFive cells p) None x) (plain-same cells p hp ask ask′ (s tt))
+      at false s = refl
+
+-- ---- deep enough is deep enough
+
+-- with no empty point there is nothing to ask
+full : (ask : Ask) (cells : List ℕ) (p : ℕ) → length cells ≡ 225 → p < 225 → empties cells ≤ 0 → strictWith ask cells p ≡ None
+unfolding strictWith
+full ask cells p l hp a = at (isEmpty (getD cells p 0)) refl
+  where
+    at : (b : Bool) → isEmpty (getD cells p 0) ≡ b → cond (isEmpty (getD cells p 0)) (cond (completesFive cells p) None (plainWith ask cells p)) None ≡ None
+    at true e = absurd (let x = empties-put Black cells p (subst⁻¹ (λ (n : ℕ). p < n) l hp) (subst⁻¹ T e tt) in omega arith)
+    at false e = rw e
+
+pub fuel : (n m : ℕ) (cells : List ℕ) (p : ℕ) → length cells ≡ 225 → p < 225 → empties cells ≤ n → empties cells ≤ m → strictN n cells p ≡ strictN m cells p
+unfolding strictN
+fuel zero zero cells p l hp a b = refl
+fuel zero (suc m) cells p l hp a b = sym (full (strictN m) cells p l hp a)
+fuel (suc n) zero cells p l hp a b = full (strictN n) cells p l hp b
+fuel (suc n) (suc m) cells p l hp a b =
+    strict-same cells p hp (strictN n) (strictN m)
+    (λ t e he.
+    let x = empties-put Black cells p (subst⁻¹ (λ (n : ℕ). p < n) l hp) t in
+    fuel n m (withBlack cells p) e (length-set cells p 1 ∙ l) he (omega arith) (omega arith))
+
+-- THE STEP: the strict verdict by the plain one, the plain one by the strict one
+pub strictOf-step : (cells : List ℕ) (p : ℕ) → length cells ≡ 225 → p < 225 → strictOf cells p ≡ strictWith strictOf cells p
+unfolding strictOf strictN
+strictOf-step cells p l hp =
+    fuel (empties cells) (suc (empties cells)) cells p l hp (omega arith) (omega arith)
+    ∙ strict-same cells p hp (strictN (empties cells)) strictOf
+    (λ t e he.
+    let x = empties-put Black cells p (subst⁻¹ (λ (n : ℕ). p < n) l hp) t in
+    fuel (empties cells) (empties (withBlack cells p)) (withBlack cells p) e (length-set cells p 1 ∙ l) he (omega arith) (omega arith))
+
+-- any depth from the number of empty points on gives the verdict
+pub strictOf-deep : (n : ℕ) (cells : List ℕ) (p : ℕ) → length cells ≡ 225 → p < 225 → empties cells ≤ n → strictOf cells p ≡ strictN n cells p
+unfolding strictOf
+strictOf-deep n cells p l hp h = fuel (empties cells) n cells p l hp (omega arith) h
+
+-- the same, cell for cell as the paper has it
+pub strictOf-plain : (cells : List ℕ) (p : ℕ) → length cells ≡ 225 → p < 225
+    → strictOf cells p ≡ cond (isEmpty (getD cells p 0)) (cond (completesFive cells p) None (plainOf cells p)) None
+unfolding strictWith plainOf
+strictOf-plain cells p l hp = strictOf-step cells p l hp

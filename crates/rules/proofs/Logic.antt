@@ -1,0 +1,122 @@
+-- Passed tests: what they say, and how they are made. `T b` is a passed test. Assumes nothing.
+use mathlib.Core.Path.{_≡_, refl, sym, subst, ap}
+use mathlib.Core.Logic.{_⊎_, inl, inr}
+use mathlib.Core.Bool.{Bool, true, false, not, _&&_, _||_}
+use Prim.Native.Nat.{ℕ, zero, suc, _≤_, _<_}
+use native.Mathlib.Nat.{not-suc-le-zero, le-of-suc-le-suc, le-refl, eq-or-lt-of-le, le-step, lt-of-not-le, not-le-of-lt}
+use lib.Dec.{T, leb, leb→le, le→leb}
+use Rattle.rules.specs.Tools.{anyBelow, allBelow}
+
+-- ---- a passed test and the equation with true, which is what a branch of code knows
+
+pub T-true : {b : Bool} → T b → b ≡ true
+T-true {b = true} t = refl
+T-true {b = false} t = absurd t
+
+pub true-T : {b : Bool} → b ≡ true → T b
+true-T e = subst T (sym e) tt
+
+pub decide : (b : Bool) → (b ≡ true) ⊎ (b ≡ false)
+decide true = inl refl
+decide false = inr refl
+
+pub no-true : false ≡ true → ⊥
+no-true e = subst T (sym e) tt
+
+-- ---- and, or, not, if
+
+pub and-left : (a b : Bool) → T (a && b) → T a
+and-left true b t = tt
+and-left false b t = t
+
+pub and-right : (a b : Bool) → T (a && b) → T b
+and-right true b t = t
+and-right false b t = absurd t
+
+pub and-intro : (a b : Bool) → T a → T b → T (a && b)
+and-intro true b s t = t
+and-intro false b s t = absurd s
+
+pub or-left : (a b : Bool) → T a → T (a || b)
+or-left true b s = tt
+or-left false b s = absurd s
+
+pub or-right : (a b : Bool) → T b → T (a || b)
+or-right true b s = tt
+or-right false b s = s
+
+pub or-cases : (a b : Bool) → T (a || b) → T a ⊎ T b
+or-cases true b t = inl t
+or-cases false b t = inr t
+
+pub not-intro : (a : Bool) → (T a → ⊥) → T (not a)
+not-intro true f = f tt
+not-intro false f = tt
+
+pub not-elim : (a : Bool) → T (not a) → T a → ⊥
+not-elim true p q = p
+not-elim false p q = q
+
+pub not-false : {a : Bool} → T (not a) → a ≡ false
+not-false {a = true} t = absurd t
+not-false {a = false} t = refl
+
+pub false-not : {a : Bool} → a ≡ false → T (not a)
+false-not e = subst (λ (b : Bool). T (not b)) (sym e) tt
+
+abbrev pub implies : Bool → Bool → Bool
+implies a b = not a || b
+
+pub implied : (a b : Bool) → T (implies a b) → T a → T b
+implied true b t u = t
+implied false b t u = absurd u
+
+-- two tests are one where each passes with the other
+pub both-ways : (a b : Bool) → (T a → T b) → (T b → T a) → a ≡ b
+both-ways true true f g = refl
+both-ways true false f g = absurd (f tt)
+both-ways false true f g = absurd (g tt)
+both-ways false false f g = refl
+
+pub along : {a b : Bool} → a ≡ b → T a → T b
+along e t = subst T e t
+
+pub same-leb : (a b c d : ℕ) → (a ≤ b → c ≤ d) → (c ≤ d → a ≤ b) → leb a b ≡ leb c d
+same-leb a b c d f g = both-ways (leb a b) (leb c d) (λ t. le→leb c d (f (leb→le a b t))) (λ t. le→leb a b (g (leb→le c d t)))
+
+-- ---- tests over a range
+
+pub any-elim : (n : ℕ) (f : ℕ → Bool) → T (anyBelow n f) → (j : ℕ) × (j < n) × T (f j)
+unfolding anyBelow
+any-elim zero f t = absurd t
+any-elim (suc n) f t =
+    elim (or-cases (f n) (anyBelow n f) t) [
+      | inl s ↦ (n, le-refl (suc n), s)
+      | inr s ↦ let r = any-elim n f s in (r .0, le-step (r .1), r .2)
+    ]
+
+pub any-intro : (n : ℕ) (f : ℕ → Bool) (j : ℕ) → j < n → T (f j) → T (anyBelow n f)
+unfolding anyBelow
+any-intro zero f j h t = absurd (not-suc-le-zero h)
+any-intro (suc n) f j h t =
+    elim (eq-or-lt-of-le (le-of-suc-le-suc h)) [
+      | inl e ↦ or-left (f n) (anyBelow n f) (subst (λ (m : ℕ). T (f m)) e t)
+      | inr l ↦ or-right (f n) (anyBelow n f) (any-intro n f j l t)
+    ]
+
+pub all-elim : (n : ℕ) (f : ℕ → Bool) → T (allBelow n f) → (j : ℕ) → j < n → T (f j)
+unfolding allBelow
+all-elim zero f t j h = absurd (not-suc-le-zero h)
+all-elim (suc n) f t j h =
+    elim (eq-or-lt-of-le (le-of-suc-le-suc h)) [
+      | inl e ↦ subst (λ (m : ℕ). T (f m)) (sym e) (and-left (f n) (allBelow n f) t)
+      | inr l ↦ all-elim n f (and-right (f n) (allBelow n f) t) j l
+    ]
+
+-- a test computed over all pairs, and over all triples
+pub all2 : (m n : ℕ) (f : ℕ → ℕ → Bool) → T (allBelow m (λ a. allBelow n (f a))) → (a b : ℕ) → a < m → b < n → T (f a b)
+all2 m n f t a b ha hb = all-elim n (f a) (all-elim m (λ a. allBelow n (f a)) t a ha) b hb
+
+pub all3 : (l m n : ℕ) (f : ℕ → ℕ → ℕ → Bool) → T (allBelow l (λ a. allBelow m (λ b. allBelow n (f a b))))
+    → (a b c : ℕ) → a < l → b < m → c < n → T (f a b c)
+all3 l m n f t a b c ha hb hc = all2 m n (f a) (all-elim l (λ a. allBelow m (λ b. allBelow n (f a b))) t a ha) b c hb hc

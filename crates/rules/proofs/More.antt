@@ -1,0 +1,161 @@
+-- "More than one", by witnesses. Assumes nothing.
+use mathlib.Core.Path.{_≡_, refl, sym, subst, ap, _∙_}
+use mathlib.Core.Logic.{_⊎_, inl, inr}
+use mathlib.Core.Bool.{Bool, true, false, not, _&&_, _||_, cond}
+use Prim.Native.Nat.{ℕ, zero, suc, _+_, _-_, _≤_, _<_}
+use native.Mathlib.Omega.{arith}
+use lib.Dec.{T, leb, ltb, eqb, eqb→eq, eqb-refl, ltb→lt, leb→le, le→leb}
+use Rattle.rules.specs.Tools.{anyBelow}
+use Rattle.rules.specs.Grid.{Starts}
+use Rattle.rules.specs.Forbidden.{someStart, someRow, onTwoLines, apart, moreThanOne}
+use Rattle.rules.proofs.Logic.{and-left, and-right, and-intro, or-left, or-right, or-cases, not-intro, not-elim, any-elim, any-intro}
+
+-- what the tests say
+pub someRow-elim : (s : Starts) → T (someRow s) → (d j : ℕ) × (d < 4) × (j < 16) × T (s d j)
+unfolding someRow
+someRow-elim s t =
+    let a = any-elim 4 (λ d. someStart (s d)) t in
+    let b = any-elim 16 (s (a .0)) (a .2) in
+    (a .0, b .0, a .1, b .1, b .2)
+
+pub someRow-intro : (s : Starts) (d j : ℕ) → d < 4 → j < 16 → T (s d j) → T (someRow s)
+unfolding someRow
+someRow-intro s d j hd hj t = any-intro 4 (λ d. someStart (s d)) d hd (any-intro 16 (s d) j hj t)
+
+-- two starts, on two lines or on one line two or more apart
+pub record TwoLines (s : Starts) : Type 0 where
+  pub d1 : ℕ
+  pub d2 : ℕ
+  pub j1 : ℕ
+  pub j2 : ℕ
+  pub d1-lt : d1 < 4
+  pub d2-lt : d2 < 4
+  pub j1-lt : j1 < 16
+  pub j2-lt : j2 < 16
+  pub differ : d1 ≡ d2 → ⊥
+  pub here : T (s d1 j1)
+  pub there : T (s d2 j2)
+
+pub record TwoApart (s : ℕ → Bool) : Type 0 where
+  pub j : ℕ
+  pub k : ℕ
+  pub far : j + 2 ≤ k
+  pub k-lt : k < 16
+  pub here : T (s j)
+  pub there : T (s k)
+
+pub two-elim : (s : Starts) → T (onTwoLines s) → TwoLines s
+unfolding onTwoLines
+two-elim s t =
+    let a = any-elim 4 (λ d. someStart (s d) && anyBelow 4 (λ e. not (eqb d e) && someStart (s e))) t in
+    let d = a .0 in
+    let l = and-left (someStart (s d)) (anyBelow 4 (λ e. not (eqb d e) && someStart (s e))) (a .2) in
+    let b = any-elim 4 (λ e. not (eqb d e) && someStart (s e)) (and-right (someStart (s d)) (anyBelow 4 (λ e. not (eqb d e) && someStart (s e))) (a .2)) in
+    let e = b .0 in
+    let x = any-elim 16 (s d) l in
+    let y = any-elim 16 (s e) (and-right (not (eqb d e)) (someStart (s e)) (b .2)) in
+    let nd = and-left (not (eqb d e)) (someStart (s e)) (b .2) in
+    record {
+      d1 = d;
+      d2 = e;
+      j1 = x .0;
+      j2 = y .0;
+      d1-lt = a .1;
+      d2-lt = b .1;
+      j1-lt = x .1;
+      j2-lt = y .1;
+      differ = λ q. not-elim (eqb d e) nd (subst (λ (z : ℕ). T (eqb d z)) q (eqb-refl d));
+      here = x .2;
+      there = y .2;
+    }
+
+pub two-intro : (s : Starts) → TwoLines s → T (onTwoLines s)
+unfolding onTwoLines
+two-intro s w =
+    any-intro 4 (λ d. someStart (s d) && anyBelow 4 (λ e. not (eqb d e) && someStart (s e))) (w .d1) (w .d1-lt)
+    (and-intro (someStart (s (w .d1))) (anyBelow 4 (λ e. not (eqb (w .d1) e) && someStart (s e)))
+    (any-intro 16 (s (w .d1)) (w .j1) (w .j1-lt) (w .here))
+    (any-intro 4 (λ e. not (eqb (w .d1) e) && someStart (s e)) (w .d2) (w .d2-lt)
+    (and-intro (not (eqb (w .d1) (w .d2))) (someStart (s (w .d2)))
+    (not-intro (eqb (w .d1) (w .d2)) (λ q. w .differ (eqb→eq (w .d1) (w .d2) q)))
+    (any-intro 16 (s (w .d2)) (w .j2) (w .j2-lt) (w .there)))))
+
+pub apart-elim : (s : ℕ → Bool) → T (apart s) → TwoApart s
+unfolding apart
+apart-elim s t =
+    let a = any-elim 16 (λ j. s j && anyBelow 16 (λ k. leb (j + 2) k && s k)) t in
+    let j = a .0 in
+    let b = any-elim 16 (λ k. leb (j + 2) k && s k) (and-right (s j) (anyBelow 16 (λ k. leb (j + 2) k && s k)) (a .2)) in
+    let k = b .0 in
+    record {
+      j = j;
+      k = k;
+      far = leb→le (j + 2) k (and-left (leb (j + 2) k) (s k) (b .2));
+      k-lt = b .1;
+      here = and-left (s j) (anyBelow 16 (λ k. leb (j + 2) k && s k)) (a .2);
+      there = and-right (leb (j + 2) k) (s k) (b .2);
+    }
+
+pub apart-intro : (s : ℕ → Bool) → TwoApart s → T (apart s)
+unfolding apart
+apart-intro s w =
+    let hf = w .far in
+    let hk = w .k-lt in
+    any-intro 16 (λ j. s j && anyBelow 16 (λ k. leb (j + 2) k && s k)) (w .j) (omega arith)
+    (and-intro (s (w .j)) (anyBelow 16 (λ k. leb (w .j + 2) k && s k)) (w .here)
+    (any-intro 16 (λ k. leb (w .j + 2) k && s k) (w .k) hk
+    (and-intro (leb (w .j + 2) (w .k)) (s (w .k)) (le→leb (w .j + 2) (w .k) hf) (w .there))))
+
+pub more-elim : (s : Starts) → T (moreThanOne s) → TwoLines s ⊎ ((d : ℕ) × (d < 4) × TwoApart (s d))
+unfolding moreThanOne
+more-elim s t =
+    elim (or-cases (onTwoLines s) (anyBelow 4 (λ d. apart (s d))) t) [
+      | inl u ↦ inl (two-elim s u)
+      | inr u ↦ let a = any-elim 4 (λ d. apart (s d)) u in inr (a .0, a .1, apart-elim (s (a .0)) (a .2))
+    ]
+
+pub more-lines : (s : Starts) → TwoLines s → T (moreThanOne s)
+unfolding moreThanOne
+more-lines s w = or-left (onTwoLines s) (anyBelow 4 (λ d. apart (s d))) (two-intro s w)
+
+pub more-apart : (s : Starts) (d : ℕ) → d < 4 → TwoApart (s d) → T (moreThanOne s)
+unfolding moreThanOne
+more-apart s d hd w = or-right (onTwoLines s) (anyBelow 4 (λ d. apart (s d))) (any-intro 4 (λ d. apart (s d)) d hd (apart-intro (s d) w))
+
+-- starts carried from s to s′, direction by direction, some of them the other way round
+pub record Carried (s s′ : Starts) : Type 0 where
+  pub to : ℕ → ℕ
+  pub to-lt : (d : ℕ) → d < 4 → to d < 4
+  pub to-one : (d e : ℕ) → d < 4 → e < 4 → to d ≡ to e → d ≡ e
+  pub row : (d j : ℕ) → d < 4 → T (s d j) → (k : ℕ) × (k < 16) × T (s′ (to d) k)
+  pub rows : (d : ℕ) → d < 4 → TwoApart (s d) → TwoApart (s′ (to d))
+
+module _ (s s′ : Starts) (c : Carried s s′) where
+  pub someRow-carried : T (someRow s) → T (someRow s′)
+  someRow-carried t =
+      let a = someRow-elim s t in
+      let b = c .row (a .0) (a .1) (a .2) (a .4) in
+      someRow-intro s′ (c .to (a .0)) (b .0) (c .to-lt (a .0) (a .2)) (b .1) (b .2)
+
+  carry : TwoLines s ⊎ ((d : ℕ) × (d < 4) × TwoApart (s d)) → T (moreThanOne s′)
+  carry (inl w) =
+      let a = c .row (w .d1) (w .j1) (w .d1-lt) (w .here) in
+      let b = c .row (w .d2) (w .j2) (w .d2-lt) (w .there) in
+      more-lines s′
+      (record {
+        d1 = c .to (w .d1);
+        d2 = c .to (w .d2);
+        j1 = a .0;
+        j2 = b .0;
+        d1-lt = c .to-lt (w .d1) (w .d1-lt);
+        d2-lt = c .to-lt (w .d2) (w .d2-lt);
+        j1-lt = a .1;
+        j2-lt = b .1;
+        differ = λ q. w .differ (c .to-one (w .d1) (w .d2) (w .d1-lt) (w .d2-lt) q);
+        here = a .2;
+        there = b .2;
+      })
+  carry (inr w) = more-apart s′ (c .to (w .0)) (c .to-lt (w .0) (w .1)) (c .rows (w .0) (w .1) (w .2))
+
+  pub more-carried : T (moreThanOne s) → T (moreThanOne s′)
+  more-carried t = carry (more-elim s t)

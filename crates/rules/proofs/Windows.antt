@@ -1,0 +1,102 @@
+-- Windows and rows of one line: what a passed test says. Assumes nothing.
+use mathlib.Core.Path.{_≡_, subst}
+use mathlib.Core.Bool.{Bool, true, false, not, _&&_, _||_, and-false}
+use Prim.Native.Nat.{ℕ, zero, suc, _+_, _-_, _≤_, _<_}
+use native.Mathlib.Omega.{arith}
+use lib.Dec.{T, leb, eqb, eqb→eq, leb→le, le→leb}
+use borrow.Author.Tests.{ne-eqb}
+use Rattle.rules.specs.Line.{Stones, inside, free, count, beside, dead, scores, holds, pairAt, noStone, openAt, overAt, rowAt}
+use Rattle.rules.specs.declared.RowKind.{RowKind}
+use Rattle.rules.specs.declared.RowKind.the-variants.{Two, Three, Straight, Sword, Four, Five, Overlining, Overlined}
+use Rattle.rules.proofs.Logic.{and-left, and-right, and-intro}
+use Rattle.rules.proofs.Bits.{digit-lt}
+
+-- no window holds more than five own stones: 6 and 7 match nothing
+pub count-le : (own : Stones) (j : ℕ) → count own j ≤ 5
+unfolding count
+count-le own j =
+    omega (arith, digit-lt (own j), digit-lt (own (j + 1)), digit-lt (own (j + 2)), digit-lt (own (j + 3)), digit-lt (own (j + 4)))
+
+pub scores-none : (black : Bool) (size : ℕ) (own other : Stones) (n j : ℕ) → 5 < n → scores black size own other n j ≡ false
+unfolding scores
+scores-none black size own other n j h =
+    rw (ne-eqb (count own j) n (λ e. omega (arith, count-le own j))) (and-false (inside size j && not (dead black own other j)))
+
+pub holds-none : (size : ℕ) (own other : Stones) (n j : ℕ) → 5 < n → holds size own other n j ≡ false
+unfolding holds
+holds-none size own other n j h = rw (ne-eqb (count own j) n (λ e. omega (arith, count-le own j))) (and-false (inside size j && free other j))
+
+-- the window at j has the score k
+pub record Scored (black : Bool) (size : ℕ) (own other : Stones) (k j : ℕ) : Type 0 where
+  pub fits : j + 5 ≤ size
+  pub isFree : T (free other j)
+  pub stones : count own j ≡ k
+
+pub scored : (black : Bool) (size : ℕ) (own other : Stones) (k j : ℕ) → T (scores black size own other k j) → Scored black size own other k j
+unfolding scores inside dead
+scored black size own other k j t =
+    let l = and-left (leb (j + 5) size && not (not (free other j) || black && beside own j)) (eqb (count own j) k) t in
+    record {
+      fits = leb→le (j + 5) size (and-left (leb (j + 5) size) (not (not (free other j) || black && beside own j)) l);
+      isFree = live (free other j) (black && beside own j) (and-right (leb (j + 5) size) (not (not (free other j) || black && beside own j)) l);
+      stones = eqb→eq (count own j) k (and-right (leb (j + 5) size && not (not (free other j) || black && beside own j)) (eqb (count own j) k) t);
+    }
+  where
+    live : (f d : Bool) → T (not (not f || d)) → T f
+    live true d t = tt
+    live false d t = t
+
+pub held : (size : ℕ) (own other : Stones) (k j : ℕ) → T (holds size own other k j) → j + 5 ≤ size
+unfolding holds inside
+held size own other k j t =
+    leb→le (j + 5) size (and-left (leb (j + 5) size) (free other j) (and-left (leb (j + 5) size && free other j) (eqb (count own j) k) t))
+
+-- windows j−1 and j both pass: j is i + 1
+pub record Pair (w : ℕ → Bool) (j : ℕ) : Type 0 where
+  pub i : ℕ
+  pub next : j ≡ i + 1
+  pub first : T (w i)
+  pub second : T (w j)
+
+pub pair-elim : (w : ℕ → Bool) (j : ℕ) → T (pairAt w j) → Pair w j
+unfolding pairAt
+pair-elim w zero t = absurd t
+pair-elim w (suc i) t =
+    record {
+      i = i;
+      next = omega arith;
+      first = subst (λ (x : ℕ). T (w x)) back (and-right (leb 1 (suc i)) (w (suc i - 1)) (and-left (leb 1 (suc i) && w (suc i - 1)) (w (suc i)) t));
+      second = and-right (leb 1 (suc i) && w (suc i - 1)) (w (suc i)) t;
+    }
+  where
+    back : suc i - 1 ≡ i
+    back = omega arith
+
+pub pair-intro : (w : ℕ → Bool) (i j : ℕ) → j ≡ i + 1 → T (w i) → T (w j) → T (pairAt w j)
+unfolding pairAt
+pair-intro w i j e s t =
+    and-intro (leb 1 j && w (j - 1)) (w j)
+    (and-intro (leb 1 j) (w (j - 1)) (le→leb 1 j (omega arith)) (subst (λ (x : ℕ). T (w x)) (let q : i ≡ j - 1 = omega arith in q) s)) t
+
+-- a row's later window lies on the line
+pub row-inside : (black : Bool) (size : ℕ) (own other : Stones) (k : RowKind) (j : ℕ) → T (rowAt black size own other k j) → j + 5 ≤ size
+unfolding rowAt openAt overAt
+row-inside black size own other k j t = at k t
+  where
+    wide : (n : ℕ) → T (pairAt (scores black size own other n) j && noStone own other (j + 4)) → j + 5 ≤ size
+    wide n u =
+        scored black size own other n j
+        (pair-elim (scores black size own other n) j (and-left (pairAt (scores black size own other n) j) (noStone own other (j + 4)) u) .second) .fits
+
+    over : (n : ℕ) → T (pairAt (holds size own other n) j) → j + 5 ≤ size
+    over n u = held size own other n j (pair-elim (holds size own other n) j u .second)
+
+    at : (k : RowKind) → T (rowAt black size own other k j) → j + 5 ≤ size
+    at Two u = wide 2 u
+    at Three u = wide 3 u
+    at Straight u = wide 4 u
+    at Sword u = scored black size own other 3 j u .fits
+    at Four u = scored black size own other 4 j u .fits
+    at Five u = scored black size own other 5 j u .fits
+    at Overlining u = over 4 u
+    at Overlined u = over 5 u

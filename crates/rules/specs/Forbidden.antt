@@ -1,0 +1,104 @@
+-- Section 5: the referee. The quoted sentences are document 01's.
+use mathlib.Core.Bool.{Bool, true, false, not, _&&_, _||_, cond}
+use mathlib.Core.List.{List, [], _∷_}
+use Prim.Native.Nat.{ℕ, zero, suc, _+_}
+use lib.Dec.{leb, eqb}
+use lib.ListN.{getD}
+use Rattle.rules.specs.Numbers.{verdictNo, isNone}
+use Rattle.rules.specs.Tools.{anyBelow, gather, only}
+use Rattle.rules.specs.Point.{lineNo, pointAt}
+use Rattle.rules.specs.Grid.{isEmpty, put, empties, Starts, rowsThrough, eyeOn}
+use Rattle.rules.specs.declared.Player.the-variants.{Black}
+use Rattle.rules.specs.declared.RowKind.the-variants.{Two, Three, Sword, Four, Overlining}
+use Rattle.rules.specs.declared.Verdict.{Verdict}
+use Rattle.rules.specs.declared.Verdict.the-variants.{None, DoubleThree, DoubleFour, Overline}
+
+-- ---- one row, and more than one
+
+-- some start on the line
+abbrev pub someStart : (ℕ → Bool) → Bool
+someStart s = anyBelow 16 s
+
+-- some start on some line
+unfoldable pub someRow : Starts → Bool
+someRow s = anyBelow 4 (λ d. someStart (s d))
+
+-- "starts on two lines"
+unfoldable pub onTwoLines : Starts → Bool
+onTwoLines s = anyBelow 4 (λ d. someStart (s d) && anyBelow 4 (λ e. not (eqb d e) && someStart (s e)))
+
+-- "on one line a set not contained in {j, j+1}": two starts that are two or more apart
+unfoldable pub apart : (ℕ → Bool) → Bool
+apart s = anyBelow 16 (λ j. s j && anyBelow 16 (λ k. leb (j + 2) k && s k))
+
+-- ""More than one" means starts on two lines, or on one line a set not contained in {j, j+1}."
+unfoldable pub moreThanOne : Starts → Bool
+moreThanOne s = onTwoLines s || anyBelow 4 (λ d. apart (s d))
+
+-- ---- the three kinds; `ask` is the strict verdict that a nested question is answered by
+
+abbrev pub Ask : Type 0
+Ask = List ℕ → ℕ → Verdict
+
+-- "on the board with Black at p"
+abbrev pub withBlack : List ℕ → ℕ → List ℕ
+withBlack cells p = put Black cells p
+
+-- "A Three is real when the strict verdict at its one eye, on that board, is none." The Three stands at start j of the line through p; it has one
+-- eye (proofs/Eye.antt). The strict verdict is none where p completes a five: "So an eye that completes a five counts as playable."
+unfoldable pub isReal : Ask → List ℕ → ℕ → Starts
+isReal ask cells p d j =
+    anyBelow 16 (λ e. eyeOn Black Three cells d (lineNo d p) j e && isNone (ask cells (pointAt d (lineNo d p) e)))
+
+-- the real Threes through p
+unfoldable pub realThrees : Ask → List ℕ → ℕ → Starts
+realThrees ask cells p d j = rowsThrough Black Three cells p d j && isReal ask cells p d j
+
+-- "Overline: some line has an Overlining through p."
+unfoldable pub isOverline : List ℕ → ℕ → Bool
+isOverline cells p = someRow (rowsThrough Black Overlining cells p)
+
+-- "DoubleFour: more than one Sword through p."
+unfoldable pub isDoubleFour : List ℕ → ℕ → Bool
+isDoubleFour cells p = moreThanOne (rowsThrough Black Sword cells p)
+
+-- "DoubleThree: more than one Two through p, and on the board with Black at p more than one real Three through p."
+unfoldable pub isDoubleThree : Ask → List ℕ → ℕ → Bool
+isDoubleThree ask cells p = moreThanOne (rowsThrough Black Two cells p) && moreThanOne (realThrees ask (withBlack cells p) p)
+
+-- ---- the verdicts
+
+-- "The plain verdict at an empty p, first that applies". "Nothing is asked after the first kind that applies."
+unfoldable pub plainWith : Ask → Ask
+plainWith ask cells p =
+    cond (isOverline cells p) Overline (cond (isDoubleFour cells p) DoubleFour (cond (isDoubleThree ask cells p) DoubleThree None))
+
+-- "a black Four goes through p (p completes a five)"
+unfoldable pub completesFive : List ℕ → ℕ → Bool
+completesFive cells p = someRow (rowsThrough Black Four cells p)
+
+-- "The strict verdict is none at an occupied point or where a black Four goes through p (p completes a five); otherwise it is the plain one."
+unfoldable pub strictWith : Ask → Ask
+strictWith ask cells p = cond (isEmpty (getD cells p 0)) (cond (completesFive cells p) None (plainWith ask cells p)) None
+
+-- "The strict question asks the plain one, which asks the strict one; each turn has one empty point fewer." At most n turns:
+unfoldable pub strictN : ℕ → Ask
+strictN zero cells p = None
+strictN (suc n) cells p = strictWith (strictN n) cells p
+
+-- as many turns as there are empty points are enough (proofs/Fuel.antt: more change nothing)
+unfoldable pub strictOf : Ask
+strictOf cells p = strictN (empties cells) cells p
+
+unfoldable pub plainOf : Ask
+plainOf cells p = plainWith strictOf cells p
+
+-- ---- the list
+
+-- a verdict in the list: "kind byte .., then code", and nothing for none
+abbrev pub entry : Verdict → ℕ → List ℕ
+entry v p = only (not (isNone v)) (verdictNo v ∷ p ∷ [])
+
+-- "The forbidden list holds each empty point whose strict verdict is a kind, by ascending code". (An occupied point's strict verdict is none.)
+unfoldable pub forbiddenList : List ℕ → List ℕ
+forbiddenList cells = gather 225 (λ p. entry (strictOf cells p) p)

@@ -1,0 +1,174 @@
+// The types of the game with the paper's numbers. The rules themselves are in specs/, their laws in proofs/.
+ghost use mathlib.Core.Path.{_≡_};
+ghost use Rattle.rules.specs.Numbers.{colourNo, playerOf, isColour, isBlack, isWhite, opponentOf, directionNo, directionOf, kindNo, kindOf, verdictNo, isNone};
+
+// The two colours of stones. As a number: 1 Black, 2 White.
+pub enum Player {
+    Black,
+    White,
+}
+
+// The four directions of lines, in the paper's order. As a number: 0 to 3.
+pub enum Direction {
+    Vertical,
+    Horizontal,
+    Ascending,
+    Descending,
+}
+
+// The rows of the rules, in the order of row.rs. As a number: 0 to 7.
+pub enum RowKind {
+    Two,
+    Three,
+    Straight,
+    Sword,
+    Four,
+    Five,
+    Overlining,
+    Overlined,
+}
+
+// What the referee says of a point. As a number: 0 none, 1 DoubleThree, 2 DoubleFour, 3 Overline.
+pub enum Verdict {
+    None,
+    DoubleThree,
+    DoubleFour,
+    Overline,
+}
+
+impl Player {
+    pub fn number(self) -> u8
+        ensures { λ r. ⌜ r ≡ colourNo self ⌝ }
+    {
+        match self {
+            Player::Black => 1,
+            Player::White => 2,
+        }
+    }
+
+    // The colour of a number; one that is no colour's is taken for White, so a caller that must refuse it asks `is_colour` first.
+    pub fn of(n: u8) -> Player
+        ensures { λ r. ⌜ r ≡ playerOf n ⌝ }
+    {
+        if n == 1 { Player::Black } else { Player::White }
+    }
+
+    pub fn is_black(self) -> bool
+        ensures { λ r. ⌜ r ≡ isBlack self ⌝ }
+    {
+        match self {
+            Player::Black => true,
+            Player::White => false,
+        }
+    }
+
+    pub fn is_white(self) -> bool
+        ensures { λ r. ⌜ r ≡ isWhite self ⌝ }
+    {
+        match self {
+            Player::Black => false,
+            Player::White => true,
+        }
+    }
+
+    pub fn opponent(self) -> Player
+        ensures { λ r. ⌜ r ≡ opponentOf self ⌝ }
+    {
+        match self {
+            Player::Black => Player::White,
+            Player::White => Player::Black,
+        }
+    }
+}
+
+// Whether a number is a colour's.
+pub fn is_colour(n: u8) -> bool
+    ensures { λ r. ⌜ r ≡ isColour n ⌝ }
+{
+    if n == 1 {
+        return true;
+    }
+    n == 2
+}
+
+impl Direction {
+    pub fn number(self) -> u8
+        ensures { λ r. ⌜ r ≡ directionNo self ⌝ }
+    {
+        match self {
+            Direction::Vertical => 0,
+            Direction::Horizontal => 1,
+            Direction::Ascending => 2,
+            Direction::Descending => 3,
+        }
+    }
+
+    // The direction of a number; one over 3 is taken for Descending.
+    pub fn of(n: u8) -> Direction
+        ensures { λ r. ⌜ r ≡ directionOf n ⌝ }
+    {
+        match n {
+            0 => Direction::Vertical,
+            1 => Direction::Horizontal,
+            2 => Direction::Ascending,
+            _ => Direction::Descending,
+        }
+    }
+}
+
+impl RowKind {
+    pub fn number(self) -> u8
+        ensures { λ r. ⌜ r ≡ kindNo self ⌝ }
+    {
+        match self {
+            RowKind::Two => 0,
+            RowKind::Three => 1,
+            RowKind::Straight => 2,
+            RowKind::Sword => 3,
+            RowKind::Four => 4,
+            RowKind::Five => 5,
+            RowKind::Overlining => 6,
+            RowKind::Overlined => 7,
+        }
+    }
+
+    // The kind of a number; one over 7 is taken for Overlined.
+    pub fn of(n: u8) -> RowKind
+        ensures { λ r. ⌜ r ≡ kindOf n ⌝ }
+    {
+        match n {
+            0 => RowKind::Two,
+            1 => RowKind::Three,
+            2 => RowKind::Straight,
+            3 => RowKind::Sword,
+            4 => RowKind::Four,
+            5 => RowKind::Five,
+            6 => RowKind::Overlining,
+            _ => RowKind::Overlined,
+        }
+    }
+}
+
+impl Verdict {
+    pub fn number(self) -> u8
+        ensures { λ r. ⌜ r ≡ verdictNo self ⌝ }
+    {
+        match self {
+            Verdict::None => 0,
+            Verdict::DoubleThree => 1,
+            Verdict::DoubleFour => 2,
+            Verdict::Overline => 3,
+        }
+    }
+
+    pub fn is_none(self) -> bool
+        ensures { λ r. ⌜ r ≡ isNone self ⌝ }
+    {
+        match self {
+            Verdict::None => true,
+            Verdict::DoubleThree => false,
+            Verdict::DoubleFour => false,
+            Verdict::Overline => false,
+        }
+    }
+}
