@@ -1,9 +1,10 @@
 -- Laws of the bits of a number, over any width. Assumes nothing.
 use mathlib.Core.Path.{_≡_, refl, sym, ap, ap₂, _∙_, subst, fun-ext}
-use mathlib.Core.Bool.{Bool, true, false, not, _&&_, _||_, Bool·beq, or-true}
+use mathlib.Core.Bool.{Bool, true, false, not, _&&_, _||_}
 use mathlib.Core.Logic.{_⊎_, inl, inr, ⊎-elim}
 use Prim.Native.Nat.{ℕ, zero, suc, _+_, _-_, _*_, _/_, _%_, _^_, _≤_, _<_}
-use native.Mathlib.Nat.{pow-suc, add-comm, div-add-mod', add-zero, mul-one, mul-assoc, div-one, mod-lt, zero-div, sub-zero, lt-of-not-le, not-le-of-lt, one-mul, eq-or-lt-of-le, le-of-suc-le-suc, not-suc-le-zero, lt-of-lt-of-le}
+use native.Mathlib.Nat.{pow-suc, add-comm, div-add-mod', add-zero, mul-one, mul-assoc, div-one, mod-lt, zero-div, sub-zero, lt-of-not-le}
+use native.Mathlib.Nat.{one-mul, le-of-suc-le-suc, not-suc-le-zero, lt-of-lt-of-le}
 use native.Mathlib.Numerals.{one-add}
 use native.Mathlib.Omega.{arith}
 use lib.Dec.{T, eqb, leb, ltb, lit<, leb·zero, leb·suc-zero, leb·suc-suc, eqb·zero-suc, eqb·suc-zero, eqb·suc-suc}
@@ -11,10 +12,10 @@ use lib.Arith.{lt-one, mod-mul, dbl-pred}
 use lib.Count.{trailingZeros, under, ones, ones-step, ones-ones}
 use lib.Pow.{shr-shr, pow-pos, ones-sub-lt}
 use lib.Bits.{bitAnd, bitOr, bitXor, and-lt, or-lt, and-high, and-mask, and-shr, or-shr, xor-shr, and-mod, or-mod, xor-mod}
-use borrow.Author.Tests.{lt-ltb, le-ltb, le-leb, lt-leb, leb-true, leb-false, eq-eqb, ne-eqb, eqb-true, eqb-false}
+use borrow.Author.Tests.{lt-ltb, le-ltb, leb-true, leb-false, eq-eqb, ne-eqb, eqb-true}
 use Rattle.rules.specs.Tools.{anyBelow}
 use Rattle.rules.specs.Bit.{bit, digit, maskOf, countOf}
-use Rattle.rules.proofs.Logic.{T-true, true-T, no-true, not-intro, not-elim, not-false, both-ways, any-elim, any-intro}
+use Rattle.rules.proofs.Logic.{T-true, true-T, no-true, not-intro, not-elim, not-false, not-not, both-ways, any-elim, any-intro}
 
 -- ---- a number's lowest digit
 low-cases : (n : ℕ) → (n % 2 ≡ 0) ⊎ (n % 2 ≡ 1)
@@ -284,13 +285,9 @@ bit-one-in i w j h = bit-mod (1 * 2 ^ i) w j h ∙ ap (λ (x : ℕ). bit x j) (o
 pub mask-any : (w : ℕ) (f : ℕ → Bool) → not (eqb (maskOf w f) 0) ≡ anyBelow w f
 mask-any w f =
     both-ways (not (eqb (maskOf w f) 0)) (anyBelow w f)
-    (λ t. by-not (anyBelow w f) (λ n. not-elim (eqb (maskOf w f) 0) t (true-T (eq-eqb (maskOf w f) 0 (empty n)))))
+    (λ t. not-not (anyBelow w f) (λ n. not-elim (eqb (maskOf w f) 0) t (true-T (eq-eqb (maskOf w f) 0 (empty n)))))
     (λ t. not-intro (eqb (maskOf w f) 0) (λ z. let s = any-elim w f t in set-bit (s .0) (s .1) (s .2) (eqb-true (maskOf w f) 0 (T-true z))))
   where
-    by-not : (b : Bool) → (T (not b) → ⊥) → T b
-    by-not true g = tt
-    by-not false g = g tt
-
     empty : T (not (anyBelow w f)) → maskOf w f ≡ 0
     empty n =
         bit-ext w (maskOf w f) 0 (mask-lt w f) (pow-pos w)
@@ -303,15 +300,18 @@ mask-any w f =
 pub low-below : (w n j : ℕ) → j < trailingZeros w n → bit n j ≡ false
 unfolding trailingZeros
 low-below zero n j h = absurd (omega arith)
-low-below (suc w) n zero h = go (bit n 0) refl (subst (λ (d : ℕ). 0 < under d (trailingZeros w (n / 2))) (low-digit n ∙ ap digit (sym (bit-zero n))) h)
+low-below (suc w) n zero h = go (bit n 0) refl (subst (λ (d : ℕ). 0 < under d (trailingZeros w (n / 2)))
+    (low-digit n ∙ ap digit (sym (bit-zero n))) h)
   where
     go : (b : Bool) → bit n 0 ≡ b → 0 < under (digit (bit n 0)) (trailingZeros w (n / 2)) → bit n 0 ≡ false
     go true e g = absurd (not-suc-le-zero (subst (λ (b : Bool). 0 < under (digit b) (trailingZeros w (n / 2))) e g))
     go false e g = e
 low-below (suc w) n (suc j) h =
-    bit-suc n j ∙ go (λ g. low-below w (n / 2) j g) (bit n 0) (subst (λ (d : ℕ). suc j < under d (trailingZeros w (n / 2))) (low-digit n ∙ ap digit (sym (bit-zero n))) h)
+    bit-suc n j ∙ go (λ g. low-below w (n / 2) j g) (bit n 0)
+    (subst (λ (d : ℕ). suc j < under d (trailingZeros w (n / 2))) (low-digit n ∙ ap digit (sym (bit-zero n))) h)
   where
-    go : (j < trailingZeros w (n / 2) → bit (n / 2) j ≡ false) → (b : Bool) → suc j < under (digit b) (trailingZeros w (n / 2)) → bit (n / 2) j ≡ false
+    go : (j < trailingZeros w (n / 2) → bit (n / 2) j ≡ false) → (b : Bool) → suc j < under (digit b) (trailingZeros w (n / 2))
+        → bit (n / 2) j ≡ false
     go ih true g = absurd (not-suc-le-zero g)
     go ih false g = ih (le-of-suc-le-suc g)
 
@@ -320,7 +320,8 @@ unfolding trailingZeros
 low-set zero n h = absurd (omega arith)
 low-set (suc w) n h =
     ap (λ (d : ℕ). bit n (under d (trailingZeros w (n / 2)))) (low-digit n ∙ ap digit (sym (bit-zero n)))
-    ∙ go (λ g. low-set w (n / 2) g) (bit n 0) refl (subst (λ (d : ℕ). under d (trailingZeros w (n / 2)) < suc w) (low-digit n ∙ ap digit (sym (bit-zero n))) h)
+    ∙ go (λ g. low-set w (n / 2) g) (bit n 0) refl (subst (λ (d : ℕ). under d (trailingZeros w (n / 2)) < suc w)
+    (low-digit n ∙ ap digit (sym (bit-zero n))) h)
   where
     go : (trailingZeros w (n / 2) < w → bit (n / 2) (trailingZeros w (n / 2)) ≡ true) → (b : Bool) → bit n 0 ≡ b
         → under (digit (bit n 0)) (trailingZeros w (n / 2)) < suc w → bit n (under (digit (bit n 0)) (trailingZeros w (n / 2))) ≡ true
@@ -338,7 +339,8 @@ pub count-cong : (w : ℕ) (f g : ℕ → Bool) → ((j : ℕ) → j < w → f j
 unfolding countOf
 count-cong zero f g h = refl
 count-cong (suc w) f g h =
-    ap₂ (λ (b : Bool) (n : ℕ). digit b + n) (h 0 (omega arith)) (count-cong w (λ j. f (suc j)) (λ j. g (suc j)) (λ j k. h (suc j) (omega arith)))
+    ap₂ (λ (b : Bool) (n : ℕ). digit b + n) (h 0 (omega arith))
+    (count-cong w (λ j. f (suc j)) (λ j. g (suc j)) (λ j k. h (suc j) (omega arith)))
 
 pub count-ones : (w n : ℕ) → n < 2 ^ w → ones n ≡ countOf w (bit n)
 unfolding countOf

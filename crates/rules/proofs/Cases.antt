@@ -1,12 +1,16 @@
 -- C1 to C12 (section 8): one table, one computed statement. Assumes nothing.
 use lib.Dec.{T}
 use Rattle.rules.specs.Tools.{anyBelow, gather}
-use Rattle.rules.specs.Line.{inside, free, count, beside, dead, scores, holds, pairAt, noStone, openAt, overAt, rowAt, among, emptyAt, isEye, eyeOfSome}
+use Rattle.rules.specs.Line.{inside, free, count, beside, dead, scores, holds, pairAt, noStone, openAt, overAt, rowAt, among, emptyAt}
+use Rattle.rules.specs.Line.{isEye, eyeOfSome}
 use Rattle.rules.specs.Point.{lineNo, cellNo, lineSize, pointAt}
 use Rattle.rules.specs.Grid.{empties, stoneAt, rowOn, eyeOn, rowsThrough}
-use Rattle.rules.specs.Forbidden.{someRow, onTwoLines, apart, moreThanOne, isReal, realThrees, isOverline, isDoubleFour, isDoubleThree, plainWith, completesFive, strictWith, strictN, strictOf, plainOf}
+use Rattle.rules.specs.Forbidden.{someRow, onTwoLines, apart, moreThanOne, isReal, realThrees, isOverline, isDoubleFour}
+use Rattle.rules.specs.Forbidden.{isDoubleThree, plainWith, completesFive, strictWith, strictN, strictOf, plainOf}
 use Rattle.rules.specs.Cases.{every, cases}
 
 pub table : T (every cases)
-unfolding cases anyBelow gather inside free count beside dead scores holds pairAt noStone openAt overAt rowAt among emptyAt isEye eyeOfSome lineNo cellNo lineSize pointAt empties stoneAt rowOn eyeOn rowsThrough someRow onTwoLines apart moreThanOne isReal realThrees isOverline isDoubleFour isDoubleThree plainWith completesFive strictWith strictN strictOf plainOf
+unfolding cases anyBelow gather inside free count beside dead scores holds pairAt noStone openAt overAt rowAt among emptyAt isEye eyeOfSome
+    lineNo cellNo lineSize pointAt empties stoneAt rowOn eyeOn rowsThrough someRow onTwoLines apart moreThanOne isReal realThrees isOverline
+    isDoubleFour isDoubleThree plainWith completesFive strictWith strictN strictOf plainOf
 table = tt

@@ -30,7 +30,8 @@ pub remove-none : (cells : List ℕ) (p : ℕ) → getD cells p 0 ≡ 0 → remo
 remove-none cells p e = ap (set cells p) (sym e) ∙ set-getD cells p 0
 
 -- maps that agree below n agree there after the same changes
-map-same : (n : ℕ) (changes : List Change) (f g : ℕ → ℕ) → ((q : ℕ) → q < n → f q ≡ g q) → (q : ℕ) → q < n → playMap changes f q ≡ playMap changes g q
+map-same : (n : ℕ) (changes : List Change) (f g : ℕ → ℕ) → ((q : ℕ) → q < n → f q ≡ g q) → (q : ℕ) → q < n
+    → playMap changes f q ≡ playMap changes g q
 unfolding playMap
 map-same n [] f g h q l = h q l
 map-same n (Put r p ∷ changes) f g h q l =
@@ -50,7 +51,8 @@ play-map (Put r p ∷ changes) cells e q h =
     (λ q l. set-at cells p (colourNo r) q (omega arith)) q h
 play-map (Remove p ∷ changes) cells e q h =
     play-map changes (remove cells p) (length-set cells p 0 ∙ e) q h
-    ∙ map-same 225 changes (λ q. getD (remove cells p) q 0) (λ q. cond (eqb q p) 0 (getD cells q 0)) (λ q l. set-at cells p 0 q (omega arith)) q h
+    ∙ map-same 225 changes (λ q. getD (remove cells p) q 0) (λ q. cond (eqb q p) 0 (getD cells q 0))
+    (λ q l. set-at cells p 0 q (omega arith)) q h
 
 -- ---- the number of empty points
 
@@ -64,7 +66,8 @@ empties-le (v ∷ cells) = at (isEmpty v) (empties-le cells)
     at false h = omega arith
 
 -- a stone at an empty point leaves one empty point fewer
-pub empties-put : (r : Player) (cells : List ℕ) (p : ℕ) → p < length cells → T (isEmpty (getD cells p 0)) → empties cells ≡ suc (empties (put r cells p))
+pub empties-put : (r : Player) (cells : List ℕ) (p : ℕ) → p < length cells → T (isEmpty (getD cells p 0))
+    → empties cells ≡ suc (empties (put r cells p))
 unfolding empties
 empties-put r [] p h t = absurd (not-suc-le-zero h)
 empties-put r (v ∷ cells) zero h t = at r (isEmpty v) t

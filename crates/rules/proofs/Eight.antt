@@ -1,19 +1,20 @@
 -- THE EIGHT VIEWS: the verdict of a turned board at the turned point is the verdict of the board at the point. Assumes nothing.
-use mathlib.Core.Path.{_≡_, refl, sym, subst, subst⁻¹, ap, ap₂, _∙_, fun-ext}
+use mathlib.Core.Path.{_≡_, refl, sym, subst, subst⁻¹, ap, _∙_, fun-ext}
 use mathlib.Core.Logic.{_⊎_, inl, inr}
-use mathlib.Core.Bool.{Bool, true, false, _&&_, cond}
+use mathlib.Core.Bool.{Bool, false, _&&_}
 use mathlib.Core.List.{List}
 use Prim.Native.Nat.{ℕ, zero, suc, _+_, _-_, _≤_, _<_}
 use native.Mathlib.Omega.{arith}
 use native.Mathlib.Decide.{ℕ-discrete, decLt}
 use lib.Dec.{T, eqb, eqb→eq, eqb-refl}
-use lib.ListN.{length, getD, set, length-set}
+use lib.ListN.{length, getD, length-set}
 use lib.Seq.{getD-set-same, getD-set-other}
 use Rattle.rules.specs.Numbers.{colourNo, isBlack, opponentOf, isNone}
 use Rattle.rules.specs.Line.{Stones, rowAt, span, through, among, isEye}
-use Rattle.rules.specs.Point.{lineNo, cellNo, lineSize, lineCount, pointAt}
-use Rattle.rules.specs.Grid.{isEmpty, Starts, stoneAt, rowOn, eyeOn, rowsThrough}
-use Rattle.rules.specs.Forbidden.{Ask, someRow, moreThanOne, isReal, realThrees, withBlack, isOverline, isDoubleFour, isDoubleThree, plainWith, completesFive, strictWith, strictN}
+use Rattle.rules.specs.Point.{lineNo, cellNo, lineSize, pointAt}
+use Rattle.rules.specs.Grid.{Starts, stoneAt, rowOn, eyeOn, rowsThrough}
+use Rattle.rules.specs.Forbidden.{Ask, moreThanOne, isReal, realThrees, withBlack, isOverline, isDoubleFour, isDoubleThree, plainWith}
+use Rattle.rules.specs.Forbidden.{completesFive, strictWith, strictN}
 use Rattle.rules.specs.Views.{turn, undo}
 use Rattle.rules.specs.declared.Player.{Player}
 use Rattle.rules.specs.declared.Player.the-variants.{Black}
@@ -22,10 +23,11 @@ use Rattle.rules.specs.declared.RowKind.the-variants.{Two, Three, Straig
 use Rattle.rules.specs.declared.Verdict.{Verdict}
 use Rattle.rules.proofs.Logic.{and-left, and-right, and-intro, both-ways, any-elim, any-intro}
 use Rattle.rules.proofs.Address.{point-lt, line-here, size-le}
-use Rattle.rules.proofs.Turns.{turnDir, flips, matched, turn-lt, turn-undo, undo-lt, undo-undo, dir-lt, dir-undo, turn-size, turn-cell, turn-point}
+use Rattle.rules.proofs.Turns.{turnDir, flips, matched, turn-lt, turn-undo, undo-lt, undo-undo, dir-lt, dir-undo, turn-size}
+use Rattle.rules.proofs.Turns.{turn-cell, turn-point}
 use Rattle.rules.proofs.Mirror.{Mirror, row-back, eye-back, among-back}
 use Rattle.rules.proofs.More.{TwoApart, Carried, someRow-carried, more-carried}
-use Rattle.rules.proofs.Rows.{stone-in, stone-out, through-row, through-inside, start-lt, eye-inside}
+use Rattle.rules.proofs.Rows.{stone-in, stone-out, through-inside, start-lt, eye-inside}
 
 -- B holds at each turned point what A holds at the point
 pub record Turned (v : ℕ) (A B : List ℕ) : Type 0 where
@@ -41,7 +43,8 @@ turned-back {v} {A} {B} hv t =
       same =
           λ q hq.
           sym (t .same (turn (undo v) q) (turn-lt (undo v) q (undo-lt v hv) hq))
-          ∙ ap (λ (x : ℕ). getD B x 0) (ap (λ (w : ℕ). turn w (turn (undo v) q)) (sym (undo-undo v)) ∙ turn-undo (undo v) q (undo-lt v hv) hq);
+          ∙ ap (λ (x : ℕ). getD B x 0) (ap (λ (w : ℕ). turn w (turn (undo v) q)) (sym (undo-undo v)) ∙ turn-undo (undo v) q
+          (undo-lt v hv) hq);
     }
 
 pub turn-one : (v p q : ℕ) → v < 8 → p < 225 → q < 225 → turn v p ≡ turn v q → p ≡ q
@@ -254,7 +257,8 @@ Kept P = (v : ℕ) (A B : List ℕ) (p : ℕ) → v < 8 → Turned v A B → p <
 pub kept-eq : (P : List ℕ → ℕ → Bool) → Kept P → (v : ℕ) (A B : List ℕ) (p : ℕ) → v < 8 → Turned v A B → p < 225 → P B (turn v p) ≡ P A p
 kept-eq P k v A B p hv t hp =
     both-ways (P B (turn v p)) (P A p)
-    (λ u. subst (λ (q : ℕ). T (P A q)) (turn-undo v p hv hp) (k (undo v) B A (turn v p) (undo-lt v hv) (turned-back hv t) (turn-lt v p hv hp) u))
+    (λ u. subst (λ (q : ℕ). T (P A q)) (turn-undo v p hv hp) (k (undo v) B A (turn v p) (undo-lt v hv) (turned-back hv t)
+    (turn-lt v p hv hp) u))
     (k v A B p hv t hp)
 
 rows-carried : (k : RowKind) (v : ℕ) (A B : List ℕ) (p : ℕ) → v < 8 → Turned v A B → p < 225
@@ -266,18 +270,22 @@ rows-carried k v A B p hv t hp =
 pub overline-kept : Kept isOverline
 unfolding isOverline
 overline-kept v A B p hv t hp u =
-    someRow-carried (rowsThrough Black Overlining A p) (rowsThrough Black Overlining B (turn v p)) (rows-carried Overlining v A B p hv t hp) u
+    someRow-carried (rowsThrough Black Overlining A p) (rowsThrough Black Overlining B (turn v p))
+    (rows-carried Overlining v A B p hv t hp) u
 
 pub five-kept : Kept completesFive
 unfolding completesFive
-five-kept v A B p hv t hp u = someRow-carried (rowsThrough Black Four A p) (rowsThrough Black Four B (turn v p)) (rows-carried Four v A B p hv t hp) u
+five-kept v A B p hv t hp u = someRow-carried (rowsThrough Black Four A p) (rowsThrough Black Four B (turn v p))
+    (rows-carried Four v A B p hv t hp) u
 
 pub double-four-kept : Kept isDoubleFour
 unfolding isDoubleFour
-double-four-kept v A B p hv t hp u = more-carried (rowsThrough Black Sword A p) (rowsThrough Black Sword B (turn v p)) (rows-carried Sword v A B p hv t hp) u
+double-four-kept v A B p hv t hp u = more-carried (rowsThrough Black Sword A p) (rowsThrough Black Sword B (turn v p))
+    (rows-carried Sword v A B p hv t hp) u
 
 module _ (ask : Ask) (blind : Blind ask) (v : ℕ) (A B : List ℕ) (p : ℕ) (hv : v < 8) (t : Turned v A B) (hp : p < 225) where
-  real-turn : (d j s : ℕ) → d < 4 → Moved (flips v d) (sizeAt d p) 4 j s → T (isReal ask A p d j) → T (isReal ask B (turn v p) (turnDir v d) s)
+  real-turn : (d j s : ℕ) → d < 4 → Moved (flips v d) (sizeAt d p) 4 j s → T (isReal ask A p d j)
+      → T (isReal ask B (turn v p) (turnDir v d) s)
   unfolding isReal
   real-turn d j s hd m u =
       let i = lineNo d p in
@@ -295,7 +303,8 @@ module _ (ask : Ask) (blind : Blind ask) (v : ℕ) (A B : List ℕ) (p : ℕ) (h
       any-intro 16 (λ e. eyeOn Black Three B d′ i′ s e && isNone (ask B (pointAt d′ i′ e))) h (omega (arith, size-le d p hd hp, hh))
       (and-intro (eyeOn Black Three B d′ i′ s h) (isNone (ask B (pointAt d′ i′ h)))
       (eye-turn v A B p d hv t hp hd Black j s e h m (z .1) ue)
-      (subst⁻¹ (λ (x : Verdict). T (isNone x)) (ap (ask B) ep ∙ ea) (and-right (eyeOn Black Three A d i j e) (isNone (ask A (pointAt d i e))) (a .2))))
+      (subst⁻¹ (λ (x : Verdict). T (isNone x)) (ap (ask B) ep ∙ ea)
+      (and-right (eyeOn Black Three A d i j e) (isNone (ask A (pointAt d i e))) (a .2))))
 
   real-carried : Carried (realThrees ask A p) (realThrees ask B (turn v p))
   unfolding realThrees
@@ -321,7 +330,12 @@ double-three-kept ask blind v A B p hv t hp u =
 pub plain-blind : (ask : Ask) → Blind ask → Blind (plainWith ask)
 unfolding plainWith
 plain-blind ask blind v A B p hv t hp =
-    rw (kept-eq isOverline overline-kept v A B p hv t hp, kept-eq isDoubleFour double-four-kept v A B p hv t hp, kept-eq (isDoubleThree ask) (double-three-kept ask blind) v A B p hv t hp)
+    rw (
+      kept-eq isOverline overline-kept v A B p hv t hp,
+      kept-eq isDoubleFour double-four-kept v A B p hv t hp,
+      kept-eq (isDoubleThree ask)
+          (double-three-kept ask blind) v A B p hv t hp,
+    )
 
 pub strict-with-blind : (ask : Ask) → Blind ask → Blind (strictWith ask)
 unfolding strictWith

@@ -1,6 +1,6 @@
 -- A Three has exactly one eye; "real" asks there. Assumes nothing.
 use mathlib.Core.Path.{_≡_, refl, sym, subst, ap, _∙_}
-use mathlib.Core.Bool.{Bool, true, false, not, _&&_}
+use mathlib.Core.Bool.{Bool, false, not, _&&_}
 use mathlib.Core.List.{List}
 use Prim.Native.Nat.{ℕ, zero, suc, _+_, _-_, _≤_, _<_}
 use native.Mathlib.Omega.{arith}
@@ -15,7 +15,8 @@ use Rattle.rules.specs.Grid.{stoneAt, rowOn, eyeOn}
 use Rattle.rules.specs.Forbidden.{Ask, isReal}
 use Rattle.rules.specs.declared.Player.the-variants.{Black}
 use Rattle.rules.specs.declared.RowKind.the-variants.{Three}
-use Rattle.rules.proofs.Logic.{and-left, and-right, and-intro, implies, implied, both-ways, any-elim, any-intro, all-elim, all2, not-false}
+use Rattle.rules.proofs.Logic.{and-left, and-right, and-intro, implies, implied, both-ways, any-elim, any-intro, all-elim, all2}
+use Rattle.rules.proofs.Logic.{not-false}
 use Rattle.rules.proofs.Tables.{at4, at5}
 use Rattle.rules.proofs.Windows.{Scored, scored, pair-elim}
 
@@ -37,7 +38,8 @@ one-gap a b c d t k m hk hm x y =
     eqb→eq k m
     (implied (three a b c d && not (cell a b c d k) && not (cell a b c d m)) (eqb k m)
     (all2 4 4 (λ k m. implies (three a b c d && not (cell a b c d k) && not (cell a b c d m)) (eqb k m))
-    (at4 (λ a b c d. allBelow 4 (λ k. allBelow 4 (λ m. implies (three a b c d && not (cell a b c d k) && not (cell a b c d m)) (eqb k m)))) tt a b c d)
+    (at4 (λ a b c d. allBelow 4 (λ k. allBelow 4 (λ m. implies (three a b c d && not (cell a b c d k) && not (cell a b c d m))
+    (eqb k m)))) tt a b c d)
     k m hk hm)
     (and-intro (three a b c d && not (cell a b c d k)) (not (cell a b c d m)) (and-intro (three a b c d) (not (cell a b c d k)) t x) y))
 
@@ -70,7 +72,8 @@ module _ (black : Bool) (size : ℕ) (own other : Stones) (j : ℕ) (t : T (rowA
   unfolding rowAt openAt
   window =
       scored black size own other 3 j
-      (pair-elim (scores black size own other 3) j (and-left (pairAt (scores black size own other 3) j) (noStone own other (j + 4)) t) .second)
+      (pair-elim (scores black size own other 3) j (and-left (pairAt (scores black size own other 3) j)
+      (noStone own other (j + 4)) t) .second)
 
   last : own (j + 4) ≡ false
   unfolding rowAt openAt noStone
@@ -84,7 +87,8 @@ module _ (black : Bool) (size : ℕ) (own other : Stones) (j : ℕ) (t : T (rowA
   stones =
       let z : digit (own (j + 4)) ≡ 0 = ap digit last in
       let s = window .stones in
-      subst (λ (x : ℕ). T (eqb x 3)) (let q : 3 ≡ digit (own j) + digit (own (j + 1)) + digit (own (j + 2)) + digit (own (j + 3)) = omega arith in q) tt
+      subst (λ (x : ℕ). T (eqb x 3)) (let q : 3 ≡ digit (own j) + digit (own (j + 1)) + digit (own (j + 2)) + digit
+      (own (j + 3)) = omega arith in q) tt
 
   -- no cell of the window has another's stone
   clear : (k : ℕ) → k < 4 → T (not (other (j + k)))
@@ -106,15 +110,18 @@ module _ (black : Bool) (size : ℕ) (own other : Stones) (j : ℕ) (t : T (rowA
         and-intro (leb j (j + k) && ltb (j + k) (j + 4)) (ltb (j + k) size && (not (own (j + k)) && not (other (j + k))))
             (and-intro (leb j (j + k)) (ltb (j + k) (j + 4)) (le→leb j (j + k) (omega arith)) (lt→ltb (j + k) (j + 4) (omega arith)))
             (and-intro (ltb (j + k) size) (not (own (j + k)) && not (other (j + k))) (lt→ltb (j + k) size l)
-            (and-intro (not (own (j + k))) (not (other (j + k))) (subst (λ (b : Bool). T (not b)) (cell-at own j k hk) (g .2)) (clear k hk))),
+            (and-intro (not (own (j + k))) (not (other (j + k))) (subst (λ (b : Bool). T (not b)) (cell-at own j k hk) (g .2))
+            (clear k hk))),
       )
 
   -- the gap that an eye is
-  gap : (e : ℕ) → T (isEye size own other Three j e) → (k : ℕ) × (k < 4) × (e ≡ j + k) × T (not (cell (own j) (own (j + 1)) (own (j + 2)) (own (j + 3)) k))
+  gap : (e : ℕ) → T (isEye size own other Three j e)
+      → (k : ℕ) × (k < 4) × (e ≡ j + k) × T (not (cell (own j) (own (j + 1)) (own (j + 2)) (own (j + 3)) k))
   unfolding isEye emptyAt noStone among
   gap e u =
       let a = and-left (leb j e && ltb e (j + 4)) (ltb e size && (not (own e) && not (other e))) u in
-      let z = and-right (ltb e size) (not (own e) && not (other e)) (and-right (leb j e && ltb e (j + 4)) (ltb e size && (not (own e) && not (other e))) u) in
+      let z = and-right (ltb e size) (not (own e) && not (other e))
+      (and-right (leb j e && ltb e (j + 4)) (ltb e size && (not (own e) && not (other e))) u) in
       let l : j ≤ e = leb→le j e (and-left (leb j e) (ltb e (j + 4)) a) in
       let h : e < j + 4 = ltb→lt e (j + 4) (and-right (leb j e) (ltb e (j + 4)) a) in
       let k = e - j in
@@ -135,7 +142,8 @@ module _ (black : Bool) (size : ℕ) (own other : Stones) (j : ℕ) (t : T (rowA
 
 -- ---- the question is asked at the eye, wherever it is found
 
-pub real-at : (ask : Ask) (cells : List ℕ) (p d j e : ℕ) → T (rowOn Black Three cells d (lineNo d p) j) → T (eyeOn Black Three cells d (lineNo d p) j e) → e < 16
+pub real-at : (ask : Ask) (cells : List ℕ) (p d j e : ℕ) → T (rowOn Black Three cells d (lineNo d p) j)
+    → T (eyeOn Black Three cells d (lineNo d p) j e) → e < 16
     → isReal ask cells p d j ≡ isNone (ask cells (pointAt d (lineNo d p) e))
 unfolding isReal rowOn eyeOn
 real-at ask cells p d j e t u he =
@@ -146,6 +154,8 @@ real-at ask cells p d j e t u he =
     both-ways (isReal ask cells p d j) (isNone (ask cells (pointAt d i e)))
     (λ x.
     let a = any-elim 16 at x in
-    let q : a .0 ≡ e = eye-one (isBlack Black) (lineSize d i) o w j t (a .0) e (and-left (isEye (lineSize d i) o w Three j (a .0)) (isNone (ask cells (pointAt d i (a .0)))) (a .2)) u in
-    subst (λ (x : ℕ). T (isNone (ask cells (pointAt d i x)))) q (and-right (isEye (lineSize d i) o w Three j (a .0)) (isNone (ask cells (pointAt d i (a .0)))) (a .2)))
+    let q : a .0 ≡ e = eye-one (isBlack Black) (lineSize d i) o w j t (a .0) e
+    (and-left (isEye (lineSize d i) o w Three j (a .0)) (isNone (ask cells (pointAt d i (a .0)))) (a .2)) u in
+    subst (λ (x : ℕ). T (isNone (ask cells (pointAt d i x)))) q
+    (and-right (isEye (lineSize d i) o w Three j (a .0)) (isNone (ask cells (pointAt d i (a .0)))) (a .2)))
     (λ x. any-intro 16 at e he (and-intro (isEye (lineSize d i) o w Three j e) (isNone (ask cells (pointAt d i e))) u x))

@@ -9,7 +9,8 @@ use lib.ListN.{length, getD, length-set}
 use Rattle.rules.specs.Numbers.{isNone}
 use Rattle.rules.specs.Point.{lineNo, pointAt}
 use Rattle.rules.specs.Grid.{isEmpty, empties, rowsThrough, eyeOn}
-use Rattle.rules.specs.Forbidden.{Ask, moreThanOne, isReal, realThrees, withBlack, isOverline, isDoubleFour, isDoubleThree, plainWith, completesFive, strictWith, strictN, strictOf, plainOf}
+use Rattle.rules.specs.Forbidden.{Ask, moreThanOne, isReal, realThrees, withBlack, isOverline, isDoubleFour, isDoubleThree, plainWith}
+use Rattle.rules.specs.Forbidden.{completesFive, strictWith, strictN, strictOf, plainOf}
 use Rattle.rules.specs.declared.Player.the-variants.{Black}
 use Rattle.rules.specs.declared.RowKind.the-variants.{Two, Three}
 use Rattle.rules.specs.declared.Verdict.{Verdict}
@@ -17,7 +18,7 @@ use Rattle.rules.specs.declared.Verdict.the-variants.{None, DoubleThree,
 use Rattle.rules.proofs.Logic.{and-left, and-right, and-intro, both-ways, any-elim, any-intro}
 use Rattle.rules.proofs.Address.{point-lt, line-here}
 use Rattle.rules.proofs.Changes.{empties-put}
-use Rattle.rules.proofs.More.{TwoApart, Carried, more-carried}
+use Rattle.rules.proofs.More.{Carried, more-carried}
 use Rattle.rules.proofs.Rows.{start-lt, eye-inside}
 
 -- ---- the plain verdict asks only about the board with Black at p, at points of the board
@@ -29,9 +30,11 @@ module _ (cells : List ℕ) (p : ℕ) (hp : p < 225) (ask ask′ : Ask) (same : 
       let i = lineNo d p in
       let a = any-elim 16 (λ e. eyeOn Black Three cells d i j e && isNone (ask cells (pointAt d i e))) u in
       let e = a .0 in
-      let hi = eye-inside Black Three cells d i j e (and-left (eyeOn Black Three cells d i j e) (isNone (ask cells (pointAt d i e))) (a .2)) in
+      let hi = eye-inside Black Three cells d i j e (and-left (eyeOn Black Three cells d i j e) (isNone (ask cells (pointAt d i e)))
+      (a .2)) in
       any-intro 16 (λ e. eyeOn Black Three cells d i j e && isNone (ask′ cells (pointAt d i e))) e (a .1)
-      (subst (λ (v : Verdict). T (eyeOn Black Three cells d i j e && isNone v)) (same (pointAt d i e) (point-lt d i e hd (line-here d p hd hp) hi)) (a .2))
+      (subst (λ (v : Verdict). T (eyeOn Black Three cells d i j e && isNone v))
+      (same (pointAt d i e) (point-lt d i e hd (line-here d p hd hp) hi)) (a .2))
 
   real-moves : (d j : ℕ) → d < 4 → T (realThrees ask cells p d j) → T (realThrees ask′ cells p d j)
   unfolding realThrees
@@ -51,7 +54,15 @@ module _ (cells : List ℕ) (p : ℕ) (hp : p < 225) (ask ask′ : Ask) (same : 
         to-lt = λ d hd. hd;
         to-one = λ d e hd he q. q;
         row = λ d j hd u. (j, real-start d j hd u, real-moves d j hd u);
-        rows = λ d hd w. record { j = w .j; k = w .k; far = w .far; k-lt = w .k-lt; here = real-moves d (w .j) hd (w .here); there = real-moves d (w .k) hd (w .there) };
+        rows = λ d hd w. record {
+          j = w .j;
+          k = w .k;
+          far = w .far;
+          k-lt = w .k-lt;
+          here = real-moves d (w .j) hd
+              (w .here);
+          there = real-moves d (w .k) hd (w .there);
+        };
       }
 
   pub real-more : T (moreThanOne (realThrees ask cells p)) → T (moreThanOne (realThrees ask′ cells p))
@@ -78,7 +89,8 @@ module _ (cells : List ℕ) (p : ℕ) (hp : p < 225) (ask ask′ : Ask)
   strict-same = at (isEmpty (getD cells p 0)) same
     where
       at : (b : Bool) → (T b → (e : ℕ) → e < 225 → ask (withBlack cells p) e ≡ ask′ (withBlack cells p) e)
-          → cond b (cond (completesFive cells p) None (plainWith ask cells p)) None ≡ cond b (cond (completesFive cells p) None (plainWith ask′ cells p)) None
+          → cond b (cond (completesFive cells p) None (plainWith ask cells p)) None ≡ cond b
+          (cond (completesFive cells p) None (plainWith ask′ cells p)) None
       at true s = ap (λ (x : Verdict). cond (completesFive cells p) None x) (plain-same cells p hp ask ask′ (s tt))
       at false s = refl
 
@@ -89,11 +101,13 @@ full : (ask : Ask) (cells : List ℕ) (p : ℕ) → length cells ≡ 225 → p <
 unfolding strictWith
 full ask cells p l hp a = at (isEmpty (getD cells p 0)) refl
   where
-    at : (b : Bool) → isEmpty (getD cells p 0) ≡ b → cond (isEmpty (getD cells p 0)) (cond (completesFive cells p) None (plainWith ask cells p)) None ≡ None
+    at : (b : Bool) → isEmpty (getD cells p 0) ≡ b
+        → cond (isEmpty (getD cells p 0)) (cond (completesFive cells p) None (plainWith ask cells p)) None ≡ None
     at true e = absurd (let x = empties-put Black cells p (subst⁻¹ (λ (n : ℕ). p < n) l hp) (subst⁻¹ T e tt) in omega arith)
     at false e = rw e
 
-pub fuel : (n m : ℕ) (cells : List ℕ) (p : ℕ) → length cells ≡ 225 → p < 225 → empties cells ≤ n → empties cells ≤ m → strictN n cells p ≡ strictN m cells p
+pub fuel : (n m : ℕ) (cells : List ℕ) (p : ℕ) → length cells ≡ 225 → p < 225 → empties cells ≤ n → empties cells ≤ m
+    → strictN n cells p ≡ strictN m cells p
 unfolding strictN
 fuel zero zero cells p l hp a b = refl
 fuel zero (suc m) cells p l hp a b = sym (full (strictN m) cells p l hp a)
@@ -115,7 +129,8 @@ strictOf-step cells p l hp =
     fuel (empties cells) (empties (withBlack cells p)) (withBlack cells p) e (length-set cells p 1 ∙ l) he (omega arith) (omega arith))
 
 -- any depth from the number of empty points on gives the verdict
-pub strictOf-deep : (n : ℕ) (cells : List ℕ) (p : ℕ) → length cells ≡ 225 → p < 225 → empties cells ≤ n → strictOf cells p ≡ strictN n cells p
+pub strictOf-deep : (n : ℕ) (cells : List ℕ) (p : ℕ) → length cells ≡ 225 → p < 225 → empties cells ≤ n
+    → strictOf cells p ≡ strictN n cells p
 unfolding strictOf
 strictOf-deep n cells p l hp h = fuel (empties cells) n cells p l hp (omega arith) h
 

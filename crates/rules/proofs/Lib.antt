@@ -8,6 +8,7 @@ pub mod Turns
 pub mod Windows
 pub mod Mirror
 pub mod More
+pub mod Apart
 pub mod Changes
 pub mod Rows
 pub mod Eye

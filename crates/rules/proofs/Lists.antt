@@ -1,16 +1,16 @@
 -- The laws of lists made number by number: `tab`, `gather`, and lists of (kind, code) pairs in code order. Assumes nothing.
 use mathlib.Core.Path.{_≡_, refl, sym, ap, ap₂, _∙_}
-use mathlib.Core.Bool.{Bool, true, false, not, cond}
+use mathlib.Core.Bool.{cond}
 use mathlib.Core.List.{List, [], _∷_, _++_, append-assoc}
 use Prim.Native.Nat.{ℕ, zero, suc, _+_, _≤_, _<_}
 use native.Mathlib.Omega.{arith}
-use native.Mathlib.Nat.{not-suc-le-zero, le-of-suc-le-suc, zero-add}
+use native.Mathlib.Nat.{not-suc-le-zero, le-of-suc-le-suc}
 use native.Mathlib.Decide.{ℕ-discrete}
-use lib.Dec.{ltb, eqb}
+use lib.Dec.{eqb}
 use lib.ListN.{length, getD}
 use borrow.Author.Tests.{lt-ltb, le-ltb, eq-eqb, ne-eqb}
-use Rattle.rules.specs.Numbers.{verdictNo, isNone}
-use Rattle.rules.specs.Tools.{tab, gather, only}
+use Rattle.rules.specs.Numbers.{verdictNo}
+use Rattle.rules.specs.Tools.{tab, gather}
 use Rattle.rules.specs.Forbidden.{entry}
 use Rattle.rules.specs.Views.{insert}
 use Rattle.rules.specs.declared.Verdict.{Verdict}
@@ -70,7 +70,8 @@ pairs-same kind kind′ a (suc n) h =
 pub pairs-none : (kind : ℕ → ℕ) (a n : ℕ) → ((r : ℕ) → a ≤ r → r < a + n → kind r ≡ 0) → pairs kind a n ≡ []
 unfolding pairs
 pairs-none kind a zero h = refl
-pairs-none kind a (suc n) h = pairs-skip kind a n (h a (omega arith) (omega arith)) ∙ pairs-none kind (suc a) n (λ r x y. h r (omega arith) (omega arith))
+pairs-none kind a (suc n) h = pairs-skip kind a n (h a (omega arith) (omega arith)) ∙ pairs-none kind (suc a) n
+    (λ r x y. h r (omega arith) (omega arith))
 
 -- a gathered list of verdicts is one of these
 entry-pair : (v : Verdict) (a : ℕ) (l : List ℕ) → entry v a ++ l ≡ cond (eqb (verdictNo v) 0) l (verdictNo v ∷ a ∷ l)
@@ -106,7 +107,8 @@ unfolding pairs insert
 insert-first k q kind b zero h = refl
 insert-first k q kind b (suc n) h = at (ℕ-discrete (kind b) 0) (insert-first k q kind (suc b) n (omega arith))
   where
-    at : Dec (kind b ≡ 0) → insert k q (pairs kind (suc b) n) ≡ k ∷ q ∷ pairs kind (suc b) n → insert k q (pairs kind b (suc n)) ≡ k ∷ q ∷ pairs kind b (suc n)
+    at : Dec (kind b ≡ 0) → insert k q (pairs kind (suc b) n) ≡ k ∷ q ∷ pairs kind (suc b) n
+        → insert k q (pairs kind b (suc n)) ≡ k ∷ q ∷ pairs kind b (suc n)
     at (yes z) ih = ap (insert k q) (pairs-skip kind b n z) ∙ ih ∙ ap (λ (l : List ℕ). k ∷ q ∷ l) (sym (pairs-skip kind b n z))
     at (no z) ih =
         ap (insert k q) (pairs-take kind b n z) ∙ insert-less k q (kind b) b (pairs kind (suc b) n) h
@@ -156,7 +158,8 @@ listed (k ∷ q ∷ l) p = cond (eqb q p) k (listed l p)
 pub pairs-order : (kind : ℕ → ℕ) (b a n : ℕ) → b ≤ a → InOrder b (pairs kind a n)
 unfolding pairs
 pairs-order kind b a zero h = tt
-pairs-order kind b a (suc n) h = at (ℕ-discrete (kind a) 0) (pairs-order kind b (suc a) n (omega arith)) (pairs-order kind (suc a) (suc a) n (omega arith))
+pairs-order kind b a (suc n) h = at (ℕ-discrete (kind a) 0) (pairs-order kind b (suc a) n (omega arith))
+    (pairs-order kind (suc a) (suc a) n (omega arith))
   where
     at : Dec (kind a ≡ 0) → InOrder b (pairs kind (suc a) n) → InOrder (suc a) (pairs kind (suc a) n) → InOrder b (pairs kind a (suc n))
     at (yes z) i j = rw (eq-eqb (kind a) 0 z) i

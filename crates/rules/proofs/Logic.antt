@@ -1,9 +1,9 @@
 -- Passed tests: what they say, and how they are made. `T b` is a passed test. Assumes nothing.
-use mathlib.Core.Path.{_≡_, refl, sym, subst, ap}
+use mathlib.Core.Path.{_≡_, refl, sym, subst}
 use mathlib.Core.Logic.{_⊎_, inl, inr}
 use mathlib.Core.Bool.{Bool, true, false, not, _&&_, _||_}
 use Prim.Native.Nat.{ℕ, zero, suc, _≤_, _<_}
-use native.Mathlib.Nat.{not-suc-le-zero, le-of-suc-le-suc, le-refl, eq-or-lt-of-le, le-step, lt-of-not-le, not-le-of-lt}
+use native.Mathlib.Nat.{not-suc-le-zero, le-of-suc-le-suc, le-refl, eq-or-lt-of-le, le-step}
 use lib.Dec.{T, leb, leb→le, le→leb}
 use Rattle.rules.specs.Tools.{anyBelow, allBelow}
 
@@ -64,12 +64,20 @@ not-false {a = false} t = refl
 pub false-not : {a : Bool} → a ≡ false → T (not a)
 false-not e = subst (λ (b : Bool). T (not b)) (sym e) tt
 
+pub not-not : (a : Bool) → (T (not a) → ⊥) → T a
+not-not true f = tt
+not-not false f = f tt
+
 abbrev pub implies : Bool → Bool → Bool
 implies a b = not a || b
 
 pub implied : (a b : Bool) → T (implies a b) → T a → T b
 implied true b t u = t
 implied false b t u = absurd u
+
+pub implies-intro : (a b : Bool) → (T a → T b) → T (implies a b)
+implies-intro true b f = f tt
+implies-intro false b f = tt
 
 -- two tests are one where each passes with the other
 pub both-ways : (a b : Bool) → (T a → T b) → (T b → T a) → a ≡ b
@@ -112,6 +120,11 @@ all-elim (suc n) f t j h =
       | inl e ↦ subst (λ (m : ℕ). T (f m)) (sym e) (and-left (f n) (allBelow n f) t)
       | inr l ↦ all-elim n f (and-right (f n) (allBelow n f) t) j l
     ]
+
+pub all-intro : (n : ℕ) (f : ℕ → Bool) → ((j : ℕ) → j < n → T (f j)) → T (allBelow n f)
+unfolding allBelow
+all-intro zero f h = tt
+all-intro (suc n) f h = and-intro (f n) (allBelow n f) (h n (le-refl (suc n))) (all-intro n f (λ j l. h j (le-step l)))
 
 -- a test computed over all pairs, and over all triples
 pub all2 : (m n : ℕ) (f : ℕ → ℕ → Bool) → T (allBelow m (λ a. allBelow n (f a))) → (a b : ℕ) → a < m → b < n → T (f a b)

@@ -6,7 +6,8 @@ use native.Mathlib.Omega.{arith}
 use lib.Dec.{T, leb, ltb, leb→le, le→leb, ltb→lt, lt→ltb}
 use borrow.Author.Tests.{le-leb, lt-leb}
 use Rattle.rules.specs.Bit.{digit}
-use Rattle.rules.specs.Line.{Stones, inside, free, count, beside, dead, scores, holds, pairAt, noStone, openAt, overAt, rowAt, span, among, emptyAt, eyeSpan, isEye}
+use Rattle.rules.specs.Line.{Stones, inside, free, count, beside, dead, scores, holds, pairAt, noStone, openAt, overAt, rowAt, span}
+use Rattle.rules.specs.Line.{among, emptyAt, eyeSpan, isEye}
 use Rattle.rules.specs.declared.RowKind.{RowKind}
 use Rattle.rules.specs.declared.RowKind.the-variants.{Two, Three, Straight, Sword, Four, Five, Overlining, Overlined}
 use Rattle.rules.proofs.Logic.{and-left, and-right, and-intro, along, not-false, false-not, implies, implied}
@@ -92,7 +93,8 @@ unfolding free
 first-free other i t =
     not-false
     (implied (not (other i) && not (other (i + 1)) && not (other (i + 2)) && not (other (i + 3)) && not (other (i + 4))) (not (other i))
-    (at5 (λ a b c d e. implies (not a && not b && not c && not d && not e) (not a)) tt (other i) (other (i + 1)) (other (i + 2)) (other (i + 3)) (other (i + 4)))
+    (at5 (λ a b c d e. implies (not a && not b && not c && not d && not e) (not a)) tt (other i) (other (i + 1)) (other (i + 2))
+    (other (i + 3)) (other (i + 4)))
     t)
 
 -- a cell among m cells, both read backwards

@@ -1,10 +1,10 @@
 -- "More than one", by witnesses. Assumes nothing.
-use mathlib.Core.Path.{_≡_, refl, sym, subst, ap, _∙_}
+use mathlib.Core.Path.{_≡_, subst}
 use mathlib.Core.Logic.{_⊎_, inl, inr}
-use mathlib.Core.Bool.{Bool, true, false, not, _&&_, _||_, cond}
-use Prim.Native.Nat.{ℕ, zero, suc, _+_, _-_, _≤_, _<_}
+use mathlib.Core.Bool.{Bool, not, _&&_}
+use Prim.Native.Nat.{ℕ, _+_, _-_, _≤_, _<_}
 use native.Mathlib.Omega.{arith}
-use lib.Dec.{T, leb, ltb, eqb, eqb→eq, eqb-refl, ltb→lt, leb→le, le→leb}
+use lib.Dec.{T, leb, eqb, eqb→eq, eqb-refl, leb→le, le→leb}
 use Rattle.rules.specs.Tools.{anyBelow}
 use Rattle.rules.specs.Grid.{Starts}
 use Rattle.rules.specs.Forbidden.{someStart, someRow, onTwoLines, apart, moreThanOne}
@@ -50,7 +50,8 @@ two-elim s t =
     let a = any-elim 4 (λ d. someStart (s d) && anyBelow 4 (λ e. not (eqb d e) && someStart (s e))) t in
     let d = a .0 in
     let l = and-left (someStart (s d)) (anyBelow 4 (λ e. not (eqb d e) && someStart (s e))) (a .2) in
-    let b = any-elim 4 (λ e. not (eqb d e) && someStart (s e)) (and-right (someStart (s d)) (anyBelow 4 (λ e. not (eqb d e) && someStart (s e))) (a .2)) in
+    let b = any-elim 4 (λ e. not (eqb d e) && someStart (s e))
+    (and-right (someStart (s d)) (anyBelow 4 (λ e. not (eqb d e) && someStart (s e))) (a .2)) in
     let e = b .0 in
     let x = any-elim 16 (s d) l in
     let y = any-elim 16 (s e) (and-right (not (eqb d e)) (someStart (s e)) (b .2)) in

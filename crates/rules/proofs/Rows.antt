@@ -1,6 +1,6 @@
 -- The rows and eyes of a board: where they can be. Assumes nothing.
-use mathlib.Core.Path.{_≡_, subst, ap, ap₂, _∙_}
-use mathlib.Core.Bool.{Bool, true, false, not, _&&_}
+use mathlib.Core.Path.{_≡_}
+use mathlib.Core.Bool.{false, _&&_}
 use mathlib.Core.List.{List}
 use Prim.Native.Nat.{ℕ, _+_, _≤_, _<_}
 use native.Mathlib.Omega.{arith}
@@ -18,7 +18,8 @@ use Rattle.rules.proofs.Address.{size-le}
 use Rattle.rules.proofs.Windows.{row-inside}
 
 -- a line inside and outside
-pub stone-in : (r : Player) (cells : List ℕ) (d i j : ℕ) → j < lineSize d i → stoneAt r cells d i j ≡ eqb (getD cells (pointAt d i j) 0) (colourNo r)
+pub stone-in : (r : Player) (cells : List ℕ) (d i j : ℕ) → j < lineSize d i
+    → stoneAt r cells d i j ≡ eqb (getD cells (pointAt d i j) 0) (colourNo r)
 unfolding stoneAt
 stone-in r cells d i j h = rw (lt-ltb j (lineSize d i) h)
 
@@ -32,11 +33,13 @@ unfolding rowOn
 rowOn-inside r k cells d i j t = row-inside (isBlack r) (lineSize d i) (stoneAt r cells d i) (stoneAt (opponentOf r) cells d i) k j t
 
 -- a row through a point is a row
-pub through-row : (r : Player) (k : RowKind) (cells : List ℕ) (p d j : ℕ) → T (rowsThrough r k cells p d j) → T (rowOn r k cells d (lineNo d p) j)
+pub through-row : (r : Player) (k : RowKind) (cells : List ℕ) (p d j : ℕ) → T (rowsThrough r k cells p d j)
+    → T (rowOn r k cells d (lineNo d p) j)
 unfolding rowsThrough
 through-row r k cells p d j t = and-right (through k (cellNo d p) j) (rowOn r k cells d (lineNo d p) j) t
 
-pub through-inside : (r : Player) (k : RowKind) (cells : List ℕ) (p d j : ℕ) → T (rowsThrough r k cells p d j) → j + 5 ≤ lineSize d (lineNo d p)
+pub through-inside : (r : Player) (k : RowKind) (cells : List ℕ) (p d j : ℕ) → T (rowsThrough r k cells p d j)
+    → j + 5 ≤ lineSize d (lineNo d p)
 through-inside r k cells p d j t = rowOn-inside r k cells d (lineNo d p) j (through-row r k cells p d j t)
 
 pub start-lt : (r : Player) (k : RowKind) (cells : List ℕ) (p d j : ℕ) → d < 4 → p < 225 → T (rowsThrough r k cells p d j) → j < 16

@@ -1,7 +1,7 @@
 -- What a view does to points and to lines, each law a test that antt computes. Assumes nothing.
 use mathlib.Core.Path.{_≡_, refl, sym, subst, ap, _∙_}
 use mathlib.Core.Bool.{Bool}
-use mathlib.Core.List.{List, [], _∷_}
+use mathlib.Core.List.{[], _∷_}
 use Prim.Native.Nat.{ℕ, zero, suc, _+_, _*_, _<_}
 use native.Mathlib.Omega.{arith}
 use lib.Dec.{T, eqb, ltb, eqb→eq, ltb→lt}
@@ -108,7 +108,8 @@ module _ (v d p : ℕ) (hv : v < 8) (hd : d < 4) (hp : p < 225) where
       turn-line v d q hv hd hq ∙ ap (turnLine v d) li ∙ sym (turn-line v d p hv hd hp) in
       let m2 : T (matched (flips v d) (lineSize d i) j (cellNo (turnDir v d) (turn v q))) =
       subst (λ (x : ℕ). T (matched (flips v d) (lineSize d i) x (cellNo (turnDir v d) (turn v q)))) lj
-      (subst (λ (x : ℕ). T (matched (flips v d) (lineSize d x) (cellNo d q) (cellNo (turnDir v d) (turn v q)))) li (turn-cell v d q hv hd hq)) in
+      (subst (λ (x : ℕ). T (matched (flips v d) (lineSize d x) (cellNo d q) (cellNo (turnDir v d) (turn v q)))) li
+      (turn-cell v d q hv hd hq)) in
       let e2 : cellNo (turnDir v d) (turn v q) ≡ h = matched-one (flips v d) (lineSize d i) j (cellNo (turnDir v d) (turn v q)) h m2 m in
       ap (λ (x : ℕ). pointAt (turnDir v d) x h) (sym e1)
       ∙ ap (λ (x : ℕ). pointAt (turnDir v d) (lineNo (turnDir v d) (turn v q)) x) (sym e2)

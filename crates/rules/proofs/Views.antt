@@ -1,7 +1,7 @@
 -- Demand 3: in all eight views the verdicts are the same at the turned point, and the forbidden list is the turned list. Assumes nothing.
 use mathlib.Core.Path.{_≡_, refl, sym, ap, _∙_}
-use mathlib.Core.Bool.{Bool, true, false, cond}
-use mathlib.Core.List.{List, [], _∷_}
+use mathlib.Core.Bool.{cond}
+use mathlib.Core.List.{List}
 use Prim.Native.Nat.{ℕ, zero, suc, _+_, _≤_, _<_}
 use native.Mathlib.Omega.{arith}
 use native.Mathlib.Nat.{zero-add}
@@ -11,10 +11,10 @@ use lib.ListN.{length, getD}
 use lib.Seq.{ext-getD}
 use borrow.Author.Tests.{le-leb, lt-leb}
 use Rattle.rules.specs.Numbers.{verdictNo}
-use Rattle.rules.specs.Tools.{gather}
 use Rattle.rules.specs.Forbidden.{entry, strictOf, plainOf, forbiddenList}
 use Rattle.rules.specs.Views.{turn, undo, turnCells, insert, turnList}
-use Rattle.rules.proofs.Lists.{length-tab, getD-tab, gather-cong, pairs, pairs-skip, pairs-take, pairs-same, pairs-none, gather-pairs, insert-pairs, InOrder, listed, pairs-order, pairs-listed}
+use Rattle.rules.proofs.Lists.{length-tab, getD-tab, gather-cong, pairs, pairs-skip, pairs-take, pairs-same, pairs-none}
+use Rattle.rules.proofs.Lists.{gather-pairs, insert-pairs, InOrder, listed, pairs-order, pairs-listed}
 use Rattle.rules.proofs.Turns.{turn-lt, turn-undo, undo-lt, undo-undo}
 use Rattle.rules.proofs.Eight.{Turned, Blind, strict-blind, plain-blind}
 use Rattle.rules.proofs.Changes.{empties-le}
@@ -58,10 +58,12 @@ strictOf-blind v A B p hv t hp =
     ∙ strict-blind 225 v A B p hv t hp
     ∙ sym (strictOf-deep 225 A p (t .lenA) hp (omega (arith, empties-le A, t .lenA)))
 
-pub strict-view : (v : ℕ) (cells : List ℕ) (p : ℕ) → v < 8 → length cells ≡ 225 → p < 225 → strictOf (turnCells v cells) (turn v p) ≡ strictOf cells p
+pub strict-view : (v : ℕ) (cells : List ℕ) (p : ℕ) → v < 8 → length cells ≡ 225 → p < 225
+    → strictOf (turnCells v cells) (turn v p) ≡ strictOf cells p
 strict-view v cells p hv l hp = strictOf-blind v cells (turnCells v cells) p hv (turned-cells v cells hv l) hp
 
-pub plain-view : (v : ℕ) (cells : List ℕ) (p : ℕ) → v < 8 → length cells ≡ 225 → p < 225 → plainOf (turnCells v cells) (turn v p) ≡ plainOf cells p
+pub plain-view : (v : ℕ) (cells : List ℕ) (p : ℕ) → v < 8 → length cells ≡ 225 → p < 225
+    → plainOf (turnCells v cells) (turn v p) ≡ plainOf cells p
 unfolding plainOf
 plain-view v cells p hv l hp = plain-blind strictOf strictOf-blind v cells (turnCells v cells) p hv (turned-cells v cells hv l) hp
 
@@ -74,7 +76,8 @@ kinds cells p = verdictNo (strictOf cells p)
 list-pairs : (cells : List ℕ) → forbiddenList cells ≡ pairs (kinds cells) 0 225
 unfolding forbiddenList
 list-pairs cells =
-    gather-cong 225 (λ p. entry (strictOf cells p) p) (λ p. entry (strictOf cells (0 + p)) (0 + p)) (λ p h. ap (λ (x : ℕ). entry (strictOf cells x) x) (sym (zero-add p)))
+    gather-cong 225 (λ p. entry (strictOf cells p) p) (λ p. entry (strictOf cells (0 + p)) (0 + p))
+    (λ p h. ap (λ (x : ℕ). entry (strictOf cells x) x) (sym (zero-add p)))
     ∙ gather-pairs (strictOf cells) 0 225
 
 pub list-order : (cells : List ℕ) → InOrder 0 (forbiddenList cells)
@@ -123,7 +126,8 @@ module _ (v : ℕ) (hv : v < 8) (kind : ℕ → ℕ) where
       gone : later (suc p) (turn v p) ≡ 0
       gone = later-out (suc p) (turn v p) (omega (arith, turn-undo v p hv hp))
 
-      at : Dec (kind p ≡ 0) → turnList v (pairs kind (suc p) n) ≡ pairs (later (suc p)) 0 225 → turnList v (pairs kind p (suc n)) ≡ pairs (later p) 0 225
+      at : Dec (kind p ≡ 0) → turnList v (pairs kind (suc p) n) ≡ pairs (later (suc p)) 0 225
+          → turnList v (pairs kind p (suc n)) ≡ pairs (later p) 0 225
       at (yes z) ih =
           ap (turnList v) (pairs-skip kind p n z) ∙ ih
           ∙ pairs-same (later (suc p)) (later p) 0 225 (λ r x y. each r (omega arith) (ℕ-discrete r (turn v p)))
@@ -134,7 +138,8 @@ module _ (v : ℕ) (hv : v < 8) (kind : ℕ → ℕ) where
       at (no z) ih =
           ap (turnList v) (pairs-take kind p n z)
           ∙ ap (insert (kind p) (turn v p)) ih
-          ∙ insert-pairs (kind p) (turn v p) (later (suc p)) (later p) z gone here (later-next p) 0 225 refl (omega arith) (omega (arith, turn-lt v p hv hp))
+          ∙ insert-pairs (kind p) (turn v p) (later (suc p)) (later p) z gone here (later-next p) 0 225 refl (omega arith)
+          (omega (arith, turn-lt v p hv hp))
 
 -- THE LIST: the list of the turned board is the turned list
 pub list-view : (v : ℕ) (cells : List ℕ) → v < 8 → length cells ≡ 225 → forbiddenList (turnCells v cells) ≡ turnList v (forbiddenList cells)

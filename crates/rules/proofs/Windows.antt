@@ -24,7 +24,8 @@ scores-none black size own other n j h =
 
 pub holds-none : (size : ℕ) (own other : Stones) (n j : ℕ) → 5 < n → holds size own other n j ≡ false
 unfolding holds
-holds-none size own other n j h = rw (ne-eqb (count own j) n (λ e. omega (arith, count-le own j))) (and-false (inside size j && free other j))
+holds-none size own other n j h = rw (ne-eqb (count own j) n (λ e. omega (arith, count-le own j)))
+    (and-false (inside size j && free other j))
 
 -- the window at j has the score k
 pub record Scored (black : Bool) (size : ℕ) (own other : Stones) (k j : ℕ) : Type 0 where
@@ -32,14 +33,17 @@ pub record Scored (black : Bool) (size : ℕ) (own other : Stones) (k j : ℕ) :
   pub isFree : T (free other j)
   pub stones : count own j ≡ k
 
-pub scored : (black : Bool) (size : ℕ) (own other : Stones) (k j : ℕ) → T (scores black size own other k j) → Scored black size own other k j
+pub scored : (black : Bool) (size : ℕ) (own other : Stones) (k j : ℕ) → T (scores black size own other k j)
+    → Scored black size own other k j
 unfolding scores inside dead
 scored black size own other k j t =
     let l = and-left (leb (j + 5) size && not (not (free other j) || black && beside own j)) (eqb (count own j) k) t in
     record {
       fits = leb→le (j + 5) size (and-left (leb (j + 5) size) (not (not (free other j) || black && beside own j)) l);
-      isFree = live (free other j) (black && beside own j) (and-right (leb (j + 5) size) (not (not (free other j) || black && beside own j)) l);
-      stones = eqb→eq (count own j) k (and-right (leb (j + 5) size && not (not (free other j) || black && beside own j)) (eqb (count own j) k) t);
+      isFree = live (free other j) (black && beside own j) (and-right (leb (j + 5) size)
+          (not (not (free other j) || black && beside own j)) l);
+      stones = eqb→eq (count own j) k (and-right (leb (j + 5) size && not (not (free other j) || black && beside own j))
+          (eqb (count own j) k) t);
     }
   where
     live : (f d : Bool) → T (not (not f || d)) → T f
@@ -65,7 +69,8 @@ pair-elim w (suc i) t =
     record {
       i = i;
       next = omega arith;
-      first = subst (λ (x : ℕ). T (w x)) back (and-right (leb 1 (suc i)) (w (suc i - 1)) (and-left (leb 1 (suc i) && w (suc i - 1)) (w (suc i)) t));
+      first = subst (λ (x : ℕ). T (w x)) back (and-right (leb 1 (suc i)) (w (suc i - 1))
+          (and-left (leb 1 (suc i) && w (suc i - 1)) (w (suc i)) t));
       second = and-right (leb 1 (suc i) && w (suc i - 1)) (w (suc i)) t;
     }
   where
@@ -86,7 +91,8 @@ row-inside black size own other k j t = at k t
     wide : (n : ℕ) → T (pairAt (scores black size own other n) j && noStone own other (j + 4)) → j + 5 ≤ size
     wide n u =
         scored black size own other n j
-        (pair-elim (scores black size own other n) j (and-left (pairAt (scores black size own other n) j) (noStone own other (j + 4)) u) .second) .fits
+        (pair-elim (scores black size own other n) j (and-left (pairAt (scores black size own other n) j)
+        (noStone own other (j + 4)) u) .second) .fits
 
     over : (n : ℕ) → T (pairAt (holds size own other n) j) → j + 5 ≤ size
     over n u = held size own other n j (pair-elim (holds size own other n) j u .second)

@@ -1,11 +1,11 @@
 -- Section 8: the table of cases C1 to C12, each as a test. proofs/Cases.antt proves that all pass.
-use mathlib.Core.Bool.{Bool, true, false, not, _&&_, cond}
+use mathlib.Core.Bool.{Bool, true, false, _&&_, cond}
 use mathlib.Core.List.{List, [], _∷_}
-use Prim.Native.Nat.{ℕ, zero, suc, _+_, _-_}
+use Prim.Native.Nat.{ℕ, _-_}
 use lib.Dec.{eqb}
 use lib.ListN.{replicate}
-use Rattle.rules.specs.Numbers.{colourNo, isBlack, verdictNo}
-use Rattle.rules.specs.Tools.{anyBelow, gather, only}
+use Rattle.rules.specs.Numbers.{isBlack, verdictNo}
+use Rattle.rules.specs.Tools.{gather, only}
 use Rattle.rules.specs.Line.{rowAt, eyeOfSome}
 use Rattle.rules.specs.Point.{codeOf}
 use Rattle.rules.specs.Grid.{put}
@@ -44,7 +44,8 @@ startsAre r size own k expected =
 
 abbrev pub eyesAre : Player → ℕ → List ℕ → RowKind → List ℕ → Bool
 eyesAre r size own k expected =
-    same (gather size (λ e. only (eyeOfSome size (member own) nowhere k (rowAt (isBlack r) size (member own) nowhere k) e) (e ∷ []))) expected
+    same (gather size (λ e. only (eyeOfSome size (member own) nowhere k (rowAt (isBlack r) size (member own) nowhere k) e)
+    (e ∷ []))) expected
 
 -- ---- boards: a point by its letter and number
 

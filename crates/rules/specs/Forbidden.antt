@@ -1,5 +1,5 @@
 -- Section 5: the referee. The quoted sentences are document 01's.
-use mathlib.Core.Bool.{Bool, true, false, not, _&&_, _||_, cond}
+use mathlib.Core.Bool.{Bool, not, _&&_, _||_, cond}
 use mathlib.Core.List.{List, [], _∷_}
 use Prim.Native.Nat.{ℕ, zero, suc, _+_}
 use lib.Dec.{leb, eqb}
@@ -27,7 +27,7 @@ someRow s = anyBelow 4 (λ d. someStart (s d))
 unfoldable pub onTwoLines : Starts → Bool
 onTwoLines s = anyBelow 4 (λ d. someStart (s d) && anyBelow 4 (λ e. not (eqb d e) && someStart (s e)))
 
--- "on one line a set not contained in {j, j+1}": two starts that are two or more apart
+-- "on one line a set not contained in {j, j+1}": two starts that are two or more apart (proofs/Apart.antt, apart-says: the same thing)
 unfoldable pub apart : (ℕ → Bool) → Bool
 apart s = anyBelow 16 (λ j. s j && anyBelow 16 (λ k. leb (j + 2) k && s k))
 
@@ -44,8 +44,8 @@ Ask = List ℕ → ℕ → Verdict
 abbrev pub withBlack : List ℕ → ℕ → List ℕ
 withBlack cells p = put Black cells p
 
--- "A Three is real when the strict verdict at its one eye, on that board, is none." The Three stands at start j of the line through p; it has one
--- eye (proofs/Eye.antt). The strict verdict is none where p completes a five: "So an eye that completes a five counts as playable."
+-- "A Three is real when the strict verdict at its one eye, on that board, is none." The Three stands at start j of the line through p;
+-- it has one eye (proofs/Eye.antt). "So an eye that completes a five counts as playable": there the strict verdict is none.
 unfoldable pub isReal : Ask → List ℕ → ℕ → Starts
 isReal ask cells p d j =
     anyBelow 16 (λ e. eyeOn Black Three cells d (lineNo d p) j e && isNone (ask cells (pointAt d (lineNo d p) e)))
@@ -77,7 +77,8 @@ plainWith ask cells p =
 unfoldable pub completesFive : List ℕ → ℕ → Bool
 completesFive cells p = someRow (rowsThrough Black Four cells p)
 
--- "The strict verdict is none at an occupied point or where a black Four goes through p (p completes a five); otherwise it is the plain one."
+-- "The strict verdict is none at an occupied point or where a black Four goes through p (p completes a five); otherwise it is the plain
+-- one."
 unfoldable pub strictWith : Ask → Ask
 strictWith ask cells p = cond (isEmpty (getD cells p 0)) (cond (completesFive cells p) None (plainWith ask cells p)) None
 
@@ -99,6 +100,7 @@ plainOf cells p = plainWith strictOf cells p
 abbrev pub entry : Verdict → ℕ → List ℕ
 entry v p = only (not (isNone v)) (verdictNo v ∷ p ∷ [])
 
--- "The forbidden list holds each empty point whose strict verdict is a kind, by ascending code". (An occupied point's strict verdict is none.)
+-- "The forbidden list holds each empty point whose strict verdict is a kind, by ascending code". (An occupied point's strict verdict is
+-- none.) Each such point once, ascending: proofs/Views.antt, list-order and list-names.
 unfoldable pub forbiddenList : List ℕ → List ℕ
 forbiddenList cells = gather 225 (λ p. entry (strictOf cells p) p)

@@ -1,13 +1,14 @@
--- The board: 225 cells in code order, 0 empty, 1 black, 2 white; what is read off it line by line (section 4). The quoted sentences are document 01's.
-use mathlib.Core.Bool.{Bool, true, false, not, _&&_, _||_, cond}
+-- The board: 225 cells in code order, 0 empty, 1 black, 2 white; put and remove (section 3), and what is read off it line by line
+-- (section 4). The quoted sentences are document 01's.
+use mathlib.Core.Bool.{Bool, not, _&&_, _||_, cond}
 use mathlib.Core.List.{List, [], _∷_}
-use Prim.Native.Nat.{ℕ, zero, suc, _+_, _-_, _*_}
+use Prim.Native.Nat.{ℕ, suc, _+_, _-_}
 use lib.Dec.{leb, ltb, eqb}
 use lib.ListN.{getD, set}
 use Rattle.rules.specs.Numbers.{colourNo, isBlack, opponentOf}
 use Rattle.rules.specs.Tools.{gather, only}
 use Rattle.rules.specs.Line.{Stones, rowAt, through, isEye, eyeOfSome, stonesMask, eyesMask}
-use Rattle.rules.specs.Point.{lineNo, cellNo, lineSize, pointAt, keyDir, keyNo, keySize, keyOf}
+use Rattle.rules.specs.Point.{lineNo, cellNo, lineSize, pointAt, keyDir, keyNo, keyOf}
 use Rattle.rules.specs.declared.Player.{Player}
 use Rattle.rules.specs.declared.RowKind.{RowKind}
 use Rattle.rules.specs.declared.RowKind.the-variants.{Four}
@@ -99,9 +100,11 @@ rowsOnPoint r k cells p = gather 4 (λ d. lineRows r k cells d (lineNo d p) (row
 -- cell e of the line through p is an eye of one of the player's Fours through p
 unfoldable pub fourEye : Player → List ℕ → ℕ → ℕ → ℕ → Bool
 fourEye r cells p d e =
-    eyeOfSome (lineSize d (lineNo d p)) (stoneAt r cells d (lineNo d p)) (stoneAt (opponentOf r) cells d (lineNo d p)) Four (rowsThrough r Four cells p d) e
+    eyeOfSome (lineSize d (lineNo d p)) (stoneAt r cells d (lineNo d p)) (stoneAt (opponentOf r) cells d (lineNo d p)) Four
+    (rowsThrough r Four cells p d) e
 
 -- "Four eyes through a point: line by line (vertical, horizontal, ascending, descending), each cell once a line, ascending."
+-- "Through an empty point the point itself may come once for each line."
 unfoldable pub fourEyes : Player → List ℕ → ℕ → List ℕ
 fourEyes r cells p =
     gather 4 (λ d. gather (lineSize d (lineNo d p)) (λ e. only (fourEye r cells p d e) (pointAt d (lineNo d p) e ∷ [])))
@@ -110,8 +113,8 @@ fourEyes r cells p =
 unfoldable pub onLine : ℕ → ℕ → ℕ → ℕ → Bool
 onLine size c n s = leb n (c + s) && ltb (c + s - n) size
 
--- "`neighbors` takes distance d, 0 to 14, and names the cells from −d to +d in each direction in that order, short diagonals too, the point itself
--- each time; the empty-only form drops stones." Here the distance is n and s counts the cells from −n on.
+-- "`neighbors` takes distance d, 0 to 14, and names the cells from −d to +d in each direction in that order, short diagonals too, the
+-- point itself each time; the empty-only form drops stones." Here the distance is n and s counts the cells from −n on.
 unfoldable pub neighbours : List ℕ → ℕ → ℕ → Bool → List ℕ
 neighbours cells p n onlyEmpty =
     gather 4 (λ d. gather (n + n + 1) (λ s.

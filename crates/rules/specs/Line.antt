@@ -38,7 +38,8 @@ dead black own other j = not (free other j) || black && beside own j
 unfoldable pub scores : Bool → ℕ → Stones → Stones → ℕ → ℕ → Bool
 scores black size own other n j = inside size j && not (dead black own other j) && eqb (count own j) n
 
--- "`score_mask`, `count_mask` and `open_starts` read a number n modulo 8; 6 and 7 match nothing" (proofs/Windows.antt: no window holds over 5)
+-- "`score_mask`, `count_mask` and `open_starts` read a number n modulo 8; 6 and 7 match nothing" (proofs/Windows.antt, scores-none and
+-- holds-none: no window holds over 5)
 abbrev pub readNumber : ℕ → ℕ
 readNumber n = n % 8
 
@@ -64,8 +65,9 @@ openAt black size own other n j = pairAt (scores black size own other n) j && no
 unfoldable pub overAt : ℕ → Stones → Stones → ℕ → ℕ → Bool
 overAt size own other n j = pairAt (holds size own other n) j
 
--- A row of the kind stands at j. "Sword, Four, Five at j: score 3, 4, 5. Two, Three, Straight at j: windows j−1 and j both score 2, 3, 4 and
--- cell j+4 is empty. Overlining, Overlined at j: windows j−1 and j are both free and both hold 4, or both 5, counted without the dead rule."
+-- A row of the kind stands at j. "Sword, Four, Five at j: score 3, 4, 5. Two, Three, Straight at j: windows j−1 and j both score 2, 3, 4
+-- and cell j+4 is empty. Overlining, Overlined at j: windows j−1 and j are both free and both hold 4, or both 5, counted without the dead
+-- rule."
 unfoldable pub rowAt : Bool → ℕ → Stones → Stones → RowKind → ℕ → Bool
 rowAt black size own other Two j = openAt black size own other 2 j
 rowAt black size own other Three j = openAt black size own other 3 j
@@ -141,6 +143,6 @@ spreadAt starts cells i = anyBelow 8 (λ k. cells k && (leb k i && starts (i - k
 unfoldable pub eyesOf : ℕ → Stones → Stones → (ℕ → Bool) → (ℕ → Bool) → ℕ → Bool
 eyesOf size own other starts cells i = spreadAt starts cells i && emptyAt size own other i
 
--- "`score_bound` is 0 when the other colour has more than size − 5 stones on the line, else the own stones plus one." A line is at most 16 cells.
+-- "`score_bound` is 0 when the other colour has more than size − 5 stones on the line, else the own stones plus one." (A mask has 16 cells.)
 unfoldable pub boundOf : ℕ → Stones → Stones → ℕ
 boundOf size own other = cond (leb (countOf 16 other + 5) size) (countOf 16 own + 1) 0

@@ -1,5 +1,6 @@
--- Section 3: points and lines. A direction is a number, 0 vertical, 1 horizontal, 2 ascending, 3 descending. The quoted sentences are document 01's.
-use mathlib.Core.Bool.{Bool, true, false, _&&_, cond}
+-- Section 3: points and lines. A direction is a number: 0 vertical, 1 horizontal, 2 ascending, 3 descending. The quoted sentences are
+-- document 01's.
+use mathlib.Core.Bool.{Bool, true, _&&_, cond}
 use Prim.Native.Nat.{ℕ, zero, suc, _+_, _-_, _*_, _/_, _%_}
 use lib.Dec.{ltb, leb}
 
@@ -20,8 +21,8 @@ byDirection (suc zero) v h a d = h
 byDirection (suc (suc zero)) v h a d = a
 byDirection (suc (suc (suc k))) v h a d = d
 
--- The number of the line through p. "Vertical line x holds cells y; horizontal line y holds cells x. Ascending number is x + 14 − y .. Descending
--- number is x + y"
+-- The number of the line through p. "Vertical line x holds cells y; horizontal line y holds cells x. Ascending number is x + 14 − y ..
+-- Descending number is x + y"
 unfoldable pub lineNo : ℕ → ℕ → ℕ
 lineNo d p = byDirection d (xOf p) (yOf p) (xOf p + 14 - yOf p) (xOf p + yOf p)
 

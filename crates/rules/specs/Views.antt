@@ -30,8 +30,8 @@ undo (suc (suc zero)) = 2
 undo (suc (suc (suc zero))) = 1
 undo (suc (suc (suc (suc v)))) = suc (suc (suc (suc v)))
 
--- "The turned board holds at each turned point what the board holds at the point, and nothing else": at q what the board holds at the point that
--- the view sends to q
+-- "The turned board holds at each turned point what the board holds at the point, and nothing else": at q what the board holds at the
+-- point that the view sends to q
 unfoldable pub turnCells : ℕ → List ℕ → List ℕ
 turnCells v cells = tab 225 (λ q. getD cells (turn (undo v) q) 0)
 

@@ -1,6 +1,7 @@
 // The types of the game with the paper's numbers. The rules themselves are in specs/, their laws in proofs/.
 ghost use mathlib.Core.Path.{_≡_};
-ghost use Rattle.rules.specs.Numbers.{colourNo, playerOf, isColour, isBlack, isWhite, opponentOf, directionNo, directionOf, kindNo, kindOf, verdictNo, isNone};
+ghost use Rattle.rules.specs.Numbers.{colourNo, playerOf, isColour, isBlack, isWhite, opponentOf};
+ghost use Rattle.rules.specs.Numbers.{directionNo, directionOf, kindNo, kindOf, verdictNo, isNone};
 
 // The two colours of stones. As a number: 1 Black, 2 White.
 pub enum Player {

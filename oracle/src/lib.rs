@@ -1,0 +1,18 @@
+//! The oracle: the original referee compiled from its own folder, a naive
+//! reading of document 01 beside it, boards to compare the two on, and the
+//! recorded answers of the original.
+
+/// The original, unchanged, from the folder that `build.rs` found.
+#[allow(dead_code, clippy::all)]
+pub mod board {
+    include!(concat!(env!("OUT_DIR"), "/board.rs"));
+}
+
+pub mod agree;
+pub mod boards;
+pub mod cases;
+pub mod naive;
+pub mod naive_text;
+pub mod original;
+pub mod texts;
+pub mod vectors;

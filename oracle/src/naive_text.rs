@@ -1,0 +1,133 @@
+//! A naive reading of section 7 of document 01: the three text forms.
+//!
+//! Bytes in, cell bytes or a refusal number out; written from the document.
+
+use crate::naive::{BLACK, Cells, EMPTY, POINTS, SIDE, WHITE, code};
+
+/// "Space is bytes 9 to 13 and 32."
+fn is_space(byte: u8) -> bool {
+    (9..=13).contains(&byte) || byte == 32
+}
+
+/// "All are trimmed."
+fn trimmed(text: &[u8]) -> &[u8] {
+    let Some(first) = text.iter().position(|&b| !is_space(b)) else {
+        return &[];
+    };
+    let last = text.iter().rposition(|&b| !is_space(b)).unwrap_or(first);
+    &text[first..=last]
+}
+
+/// "text over 4,096 bytes" 1, "a text byte of 128 or more" 2. "Text with "/"
+/// is stones; else with "," is moves; else a diagram."
+pub fn read(text: &[u8]) -> Result<Cells, u8> {
+    if text.len() > 4096 {
+        return Err(1);
+    }
+    if text.iter().any(|&b| b >= 128) {
+        return Err(2);
+    }
+    if text.contains(&b'/') {
+        stones(trimmed(text))
+    } else if text.contains(&b',') {
+        moves(trimmed(text))
+    } else {
+        diagram(trimmed(text))
+    }
+}
+
+/// "A point: trimmed, a letter A to O or a to o, then at most two bytes read
+/// as a number 1 to 15, a leading "+" allowed. Bytes after those are
+/// ignored".
+pub fn point(text: &[u8]) -> Result<usize, u8> {
+    let text = trimmed(text);
+    let x = match text.first() {
+        Some(&letter @ b'A'..=b'O') => letter - b'A',
+        Some(&letter @ b'a'..=b'o') => letter - b'a',
+        _ => return Err(3),
+    };
+    let behind = &text[1..];
+    let y = number(&behind[..behind.len().min(2)]).ok_or(4)?;
+    Ok(code(x as usize, y - 1))
+}
+
+/// "at most two bytes read as a number 1 to 15, a leading "+" allowed".
+fn number(text: &[u8]) -> Option<usize> {
+    let digits = text.strip_prefix(b"+").unwrap_or(text);
+    if digits.is_empty() || !digits.iter().all(u8::is_ascii_digit) {
+        return None;
+    }
+    let value = digits
+        .iter()
+        .fold(0, |value, &d| 10 * value + (d - b'0') as usize);
+    (1..=15).contains(&value).then_some(value)
+}
+
+/// The points between the commas; the first that does not read decides.
+fn points(text: &[u8]) -> Result<Vec<usize>, u8> {
+    text.split(|&b| b == b',').map(point).collect()
+}
+
+/// "Moves alternate from Black; a point met again is overwritten."
+fn moves(text: &[u8]) -> Result<Cells, u8> {
+    let mut cells = [EMPTY; POINTS];
+    for (turn, p) in points(text)?.into_iter().enumerate() {
+        cells[p] = if turn % 2 == 0 { BLACK } else { WHITE };
+    }
+    Ok(cells)
+}
+
+/// "Stones: two comma lists, black then white; anything after a second "/"
+/// is ignored; an empty list is refused 3."
+fn stones(text: &[u8]) -> Result<Cells, u8> {
+    let mut lists = text.split(|&b| b == b'/');
+    let mut cells = [EMPTY; POINTS];
+    for colour in [BLACK, WHITE] {
+        for p in points(lists.next().unwrap_or(&[]))? {
+            cells[p] = colour;
+        }
+    }
+    Ok(cells)
+}
+
+/// "Diagram: 15 lines parted by byte 10, from row 15 down, spaces dropped,
+/// 15 cells each, o black, x white, any other byte empty. Too long a line (5)
+/// is met before the count of lines (6), then size (7)."
+fn diagram(text: &[u8]) -> Result<Cells, u8> {
+    let without_spaces =
+        |line: &[u8]| -> Vec<u8> { line.iter().copied().filter(|&b| !is_space(b)).collect() };
+    let lines: Vec<Vec<u8>> = text.split(|&b| b == 10).map(without_spaces).collect();
+    if lines.iter().any(|line| line.len() > SIDE) {
+        return Err(5);
+    }
+    if lines.len() != SIDE {
+        return Err(6);
+    }
+    if lines.iter().any(|line| line.len() != SIDE) {
+        return Err(7);
+    }
+    let mut cells = [EMPTY; POINTS];
+    for (down, line) in lines.iter().enumerate() {
+        for (x, &byte) in line.iter().enumerate() {
+            cells[code(x, 14 - down)] = match byte {
+                b'o' => BLACK,
+                b'x' => WHITE,
+                _ => EMPTY,
+            };
+        }
+    }
+    Ok(cells)
+}
+
+/// "Plain diagram output: each cell a space and o, x or ".", lines joined by
+/// byte 10: 464 bytes."
+pub fn write_diagram(cells: &Cells) -> String {
+    let letter = |value: u8| match value {
+        BLACK => " o",
+        WHITE => " x",
+        _ => " .",
+    };
+    let line = |y: usize| (0..SIDE).map(|x| letter(cells[code(x, y)])).collect();
+    let lines: Vec<String> = (0..SIDE).rev().map(line).collect();
+    lines.join("\n")
+}

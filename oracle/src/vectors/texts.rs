@@ -1,0 +1,127 @@
+//! `texts.txt`: texts read as boards and lines, and both written as text.
+
+use super::{Records, SEED, byte, cells_field, list, mask};
+use crate::board::line::Line;
+use crate::board::player::Player::{Black, White};
+use crate::boards::{self, Dice};
+use crate::original::{self, Cells};
+use crate::texts;
+
+pub fn text() -> String {
+    let mut dice = Dice::new(SEED + 2);
+    let mut out = Records::default();
+    out.comment("answers of the original about texts; the forms are in README.md");
+    read_texts(&mut out, &mut dice);
+    out.comment("boards written as text");
+    for moves in [0, 15, 60] {
+        written(&mut out, &boards::game_of(&mut dice, moves.max(1)));
+    }
+    written(&mut out, &[0; 225]);
+    out.comment("points written as text");
+    for code in 0..225 {
+        let name = original::point(code).to_string();
+        out.record('y', &[byte(code), list(name.as_bytes())]);
+    }
+    out.comment("lines read from text and written as text");
+    lines(&mut out, &mut dice);
+    out.0
+}
+
+fn read_texts(out: &mut Records, dice: &mut Dice) {
+    out.comment("texts by hand");
+    for text in texts::short_examples() {
+        read(out, &text);
+    }
+    read(out, &texts::all_points());
+    // Just as long as a text may be.
+    read(out, &format!("{:<4096}", "H8,I9/J10"));
+    out.comment("diagrams");
+    for text in texts::diagram_examples(&boards::game_of(dice, 30)) {
+        read(out, &text);
+    }
+    out.comment("good texts, and texts with random changes");
+    for i in 0..210 {
+        let good = texts::good(dice);
+        let text = match i % 7 {
+            0 => good,
+            _ => texts::mutated(dice, &good),
+        };
+        read(out, &text);
+    }
+}
+
+/// `t`: a text read as a board.
+fn read(out: &mut Records, text: &str) {
+    let bytes = list(text.as_bytes());
+    match original::read(text) {
+        Ok(cells) => out.record('t', &[bytes, byte(0), cells_field(&cells)]),
+        Err(refusal) => out.record('t', &[bytes, byte(refusal)]),
+    }
+}
+
+/// `d` and `D`: a board as a plain and as a numbered diagram.
+fn written(out: &mut Records, cells: &Cells) {
+    let board = original::to_board(cells);
+    let plain = list(board.to_string().as_bytes());
+    let numbered = list(board.to_pretty_string().as_bytes());
+    out.record('d', &[cells_field(cells), plain]);
+    out.record('D', &[cells_field(cells), numbered]);
+}
+
+fn lines(out: &mut Records, dice: &mut Dice) {
+    for text in [
+        "",
+        " ",
+        "o",
+        " o x . ",
+        "OX0",
+        "\to\n\u{b}x\u{c}\r o",
+        "o\u{1}\u{7f}x",
+    ] {
+        line_read(out, text);
+    }
+    for cells in 0..=17 {
+        let plain: String = (0..cells).map(|_| dice.pick(&['o', 'x', '.'])).collect();
+        line_read(out, &plain);
+        let other: String = (0..cells)
+            .map(|_| dice.pick(&["o", "x ", "\t-", ".", "Q\r", " o"]))
+            .collect();
+        line_read(out, &other);
+    }
+    for size in 0..=15 {
+        for _ in 0..2 {
+            line_written(out, dice, size);
+        }
+    }
+}
+
+fn masks(line: &Line) -> [String; 2] {
+    [Black, White].map(|r| mask(line.stones(r).0))
+}
+
+/// `i`: a text read as a line.
+fn line_read(out: &mut Records, text: &str) {
+    let mut fields = vec![list(text.as_bytes())];
+    match text.parse::<Line>() {
+        Ok(line) => {
+            fields.push(byte(line.size));
+            fields.extend(masks(&line));
+        }
+        Err(error) => {
+            assert_eq!(original::refusal_number(error), 5);
+            fields.push(byte(0xff));
+        }
+    }
+    out.record('i', &fields);
+}
+
+/// `I`: a line written as text.
+fn line_written(out: &mut Records, dice: &mut Dice, size: u8) {
+    let blacks = dice.roll() as u16 & ((1 << size) - 1);
+    let whites = dice.roll() as u16 & ((1 << size) - 1) & !blacks;
+    let line = original::to_line(size, blacks, whites);
+    let mut fields = vec![byte(size)];
+    fields.extend(masks(&line));
+    fields.push(list(line.to_string().as_bytes()));
+    out.record('I', &fields);
+}

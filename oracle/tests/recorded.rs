@@ -1,0 +1,134 @@
+//! The recorded answers: they are what would be recorded now, they keep to
+//! their form, and they reach what they are meant to reach.
+
+use oracle::boards::NESTED_DEPTH;
+use oracle::naive::{self, Cells};
+use oracle::{naive_text, vectors};
+use std::fs;
+use std::path::Path;
+
+fn recorded(name: &str) -> String {
+    let folder = Path::new(env!("CARGO_MANIFEST_DIR")).join("../vectors");
+    fs::read_to_string(folder.join(name)).expect("a recorded file")
+}
+
+fn fields_of(text: &str, letter: &str) -> Vec<Vec<String>> {
+    text.lines()
+        .map(|line| line.split(' ').map(String::from).collect::<Vec<_>>())
+        .filter(|fields| fields[0] == letter)
+        .collect()
+}
+
+fn cells_of(field: &str) -> Cells {
+    let values: Vec<u8> = field
+        .bytes()
+        .map(|b| b".ox".iter().position(|&c| c == b).expect("a cell letter") as u8)
+        .collect();
+    values.try_into().expect("225 cells")
+}
+
+fn bytes_of(field: &str) -> Vec<u8> {
+    let pair = |k: usize| u8::from_str_radix(&field[k..k + 2], 16).expect("two digits");
+    (0..field.len()).step_by(2).map(pair).collect()
+}
+
+#[test]
+fn files_are_what_would_be_recorded_now() {
+    for (name, text) in vectors::files() {
+        assert!(recorded(name) == text, "{name} is not what record writes");
+    }
+}
+
+#[test]
+fn form_is_kept() {
+    let mut total = 0;
+    for name in ["boards.txt", "lines.txt", "texts.txt", "points.txt"] {
+        let text = recorded(name);
+        total += text.len();
+        assert!(text.ends_with('\n') && text.is_ascii());
+        for line in text.lines().filter(|line| !line.starts_with('#')) {
+            assert!(line.as_bytes()[0].is_ascii_alphabetic(), "{line}");
+            assert!(line[1..].starts_with(' '), "{line}");
+            assert!(line.len() <= 4_200 || line.starts_with('t'), "{line}");
+        }
+    }
+    assert!(total <= 460_000, "{total} bytes");
+}
+
+/// The naive reading gives every recorded verdict and list again.
+#[test]
+fn naive_replays_the_verdicts() {
+    let text = recorded("boards.txt");
+    let of = |letter| fields_of(&text, letter);
+    let (boards, stricts, plains, lists) = (of("b"), of("s"), of("p"), of("f"));
+    for i in 0..boards.len() {
+        let cells = cells_of(&boards[i][1]);
+        let strict: String = (0..225)
+            .map(|p| naive::strict(&cells, p).verdict.to_string())
+            .collect();
+        assert_eq!(strict, stricts[i][1]);
+        for (p, plain) in plains[i][1].chars().enumerate() {
+            match cells[p] {
+                0 => assert_eq!(
+                    naive::plain(&cells, p).verdict.to_string(),
+                    plain.to_string()
+                ),
+                _ => assert_eq!(plain, '-'),
+            }
+        }
+        let pairs = naive::forbidden_list(&cells);
+        let list: Vec<u8> = pairs.into_iter().flat_map(|(k, p)| [k, p]).collect();
+        assert_eq!(list, bytes_of(&lists[i][1]));
+    }
+}
+
+#[test]
+fn boards_reach_every_verdict_and_deep_nesting() {
+    let text = recorded("boards.txt");
+    for verdict in ["0", "1", "2", "3"] {
+        let has = |fields: &Vec<String>| fields[1].contains(verdict);
+        assert!(fields_of(&text, "s").iter().filter(|f| has(f)).count() >= 10);
+    }
+    let boards = fields_of(&text, "b");
+    let deep = boards
+        .iter()
+        .filter(|f| naive::depth(&cells_of(&f[1])) >= NESTED_DEPTH);
+    assert!(deep.count() >= 10);
+}
+
+/// Every kind of row of both colours is met on the board and through a point.
+#[test]
+fn boards_reach_every_kind_of_row() {
+    let text = recorded("boards.txt");
+    for (letter, at) in [("r", 1), ("o", 2)] {
+        let records = fields_of(&text, letter);
+        for colour in ["01", "02"] {
+            for kind in 0..8 {
+                let kind = format!("{kind:02x}");
+                let met = |f: &&Vec<String>| {
+                    f[at] == colour && f[at + 1] == kind && !f[at + 2].is_empty()
+                };
+                assert!(
+                    records.iter().filter(met).count() >= 2,
+                    "{letter} {colour} {kind}"
+                );
+            }
+        }
+    }
+}
+
+#[test]
+fn texts_meet_every_refusal_and_the_naive_reading() {
+    let mut met = [0; 8];
+    for fields in fields_of(&recorded("texts.txt"), "t") {
+        let refusal = bytes_of(&fields[2])[0];
+        let answer = match refusal {
+            0 => Ok(cells_of(&fields[3])),
+            number => Err(number),
+        };
+        assert_eq!(naive_text::read(&bytes_of(&fields[1])), answer);
+        met[refusal as usize] += 1;
+    }
+    assert_eq!(met[1..3], [0, 0]);
+    assert!(met[0] >= 50 && met[3..].iter().all(|&n| n >= 5), "{met:?}");
+}
