@@ -128,83 +128,120 @@ pub struct Turning {
 
 /// Found by search and with every stone taken off that was not needed.
 pub const TURNING: [Turning; 17] = [
-    none_on(
+    turning(
+        naive::NONE,
         "an eye that is an overline",
         2,
         "D6",
         "B6 B8 D8 E5 E6 E9 F10 G11",
     ),
-    three_on(
+    turning(
+        naive::DOUBLE_THREE,
         "an eye that is an overline",
         3,
         "L5",
         "H7 I6 J2 J5 L3 L6 M2 M4 M5 N4",
     ),
-    none_on(
+    turning(
+        naive::NONE,
         "an eye that is a double four",
         2,
         "D9",
         "A8 B8 B11 D7 D10 E8",
     ),
-    three_on(
+    turning(
+        naive::DOUBLE_THREE,
         "an eye that is a double four",
         3,
         "E9",
         "D8 E10 E12 F10 F11 G9 H11",
     ),
-    none_on(
+    turning(
+        naive::NONE,
         "an eye that is a double three",
         3,
         "D4",
         "E2 E4 F4 F6 G7 H2",
     ),
-    three_on(
+    turning(
+        naive::DOUBLE_THREE,
         "an eye that completes a five",
         2,
         "D5",
         "B4 C5 D7 D8 E7 F5 F8",
     ),
-    none_on(
+    turning(
+        naive::NONE,
         "an eye that completes a five",
         3,
         "K3",
         "J3 K2 K4 M2 M3 M5 M6 N5",
     ),
-    three_on("the stone being on at the eye", 2, "F5", "E6 F4 F7 H3 I4"),
-    none_on(
+    turning(
+        naive::DOUBLE_THREE,
+        "the stone being on at the eye",
+        2,
+        "F5",
+        "E6 F4 F7 H3 I4",
+    ),
+    turning(
+        naive::NONE,
         "the stone being on at the eye",
         2,
         "G11",
         "E10 F10 F12 G12 I9 I10 I12 I13",
     ),
-    three_on("the third question", 3, "F9", "C10 D11 F7 F10 G8 G12 H13"),
-    none_on("the fourth question", 5, "C4", "B2 B3 C2 C5 D4 E3 E6 F5"),
-    three_on("the fifth question", 5, "D6", "B3 C5 D4 D7 E3 E6 F5 F8 G7"),
-    none_on(
+    turning(
+        naive::DOUBLE_THREE,
+        "the third question",
+        3,
+        "F9",
+        "C10 D11 F7 F10 G8 G12 H13",
+    ),
+    turning(
+        naive::NONE,
+        "the fourth question",
+        5,
+        "C4",
+        "B2 B3 C2 C5 D4 E3 E6 F5",
+    ),
+    turning(
+        naive::DOUBLE_THREE,
+        "the fifth question",
+        5,
+        "D6",
+        "B3 C5 D4 D7 E3 E6 F5 F8 G7",
+    ),
+    turning(
+        naive::NONE,
         "the sixth question",
         6,
         "H9",
         "G7 G9 G10 G11 G12 J7 J8 J9 J10 J11 J12",
     ),
-    three_on(
+    turning(
+        naive::DOUBLE_THREE,
         "the seventh question",
         7,
         "E7",
         "D5 D7 D8 D9 D10 G5 G6 G7 G8 G9 G10 G11",
     ),
-    none_on(
+    turning(
+        naive::NONE,
         "the eighth question",
         8,
         "G9",
         "B12 C8 C11 D7 D10 E9 E12 F8 F11 F14 G10 H6 H9 H12 I8 I11",
     ),
-    three_on(
+    turning(
+        naive::DOUBLE_THREE,
         "the ninth question",
         9,
         "L12",
         "D11 D14 E11 E14 F11 F14 G11 G14 H11 H14 I11 I14 J11 J14 K11 K14 L11 L14 M11",
     ),
-    none_on(
+    turning(
+        naive::NONE,
         "the tenth question",
         11,
         "C3",
@@ -212,29 +249,13 @@ pub const TURNING: [Turning; 17] = [
     ),
 ];
 
-const fn three_on(
+const fn turning(
+    strict: u8,
     on: &'static str,
     depth: usize,
     at: &'static str,
     blacks: &'static str,
 ) -> Turning {
-    let strict = naive::DOUBLE_THREE;
-    Turning {
-        on,
-        blacks,
-        at,
-        strict,
-        depth,
-    }
-}
-
-const fn none_on(
-    on: &'static str,
-    depth: usize,
-    at: &'static str,
-    blacks: &'static str,
-) -> Turning {
-    let strict = naive::NONE;
     Turning {
         on,
         blacks,

@@ -1,13 +1,31 @@
 -- The laws of points, lines, keys and views, each a test that antt computes at every place. Assumes nothing.
 use mathlib.Core.Path.{_≡_, refl}
-use mathlib.Core.Bool.{Bool, Bool·beq}
+use mathlib.Core.Bool.{Bool, Bool·beq, _&&_}
 use Prim.Native.Nat.{ℕ, zero, suc, _≤_, _<_}
 use native.Mathlib.Omega.{arith}
 use lib.Dec.{T, eqb, ltb, leb, eqb→eq, ltb→lt, leb→le}
 use Rattle.rules.specs.Tools.{allBelow}
-use Rattle.rules.specs.Point.{lineNo, cellNo, lineCount, lineSize, pointAt, stored, keyOf, keyDir, keyNo, keySize}
+use Rattle.rules.specs.Point.{xOf, yOf, codeOf, lineNo, cellNo, lineCount, lineSize, pointAt, stored, keyOf, keyDir, keyNo, keySize}
 use Rattle.rules.proofs.Logic.{all-elim, all2, implies, implied}
 use Rattle.rules.proofs.Tables.{beq-eq}
+
+-- ---- codes
+
+-- "A1 is 0, H8 is 112, O15 is 224."
+pub named : T (eqb (codeOf 0 0) 0 && eqb (codeOf 7 7) 112 && eqb (codeOf 14 14) 224)
+named = tt
+
+pub code-lt : (x y : ℕ) → x < 15 → y < 15 → codeOf x y < 225
+code-lt x y hx hy = omega arith
+
+pub x-of-code : (x y : ℕ) → y < 15 → xOf (codeOf x y) ≡ x
+x-of-code x y hy = omega arith
+
+pub y-of-code : (x y : ℕ) → y < 15 → yOf (codeOf x y) ≡ y
+y-of-code x y hy = omega arith
+
+pub code-of-xy : (p : ℕ) → codeOf (xOf p) (yOf p) ≡ p
+code-of-xy p = omega arith
 
 -- ---- a point is at its address, and the address exists
 
