@@ -61,7 +61,8 @@ module _ (s : ℕ → Bool) where
   unfolding within First
   from-first n f =
       let j = f .0 in
-      any-intro 16 (within s) j (f .1) (all-intro 16 (near s j) (λ k hk. implies-intro (s k) (eqb k j || eqb k (j + 1)) (λ u. at k hk u (decLe j k) (decLe (j + 2) k))))
+      any-intro 16 (within s) j (f .1) (all-intro 16 (near s j)
+      (λ k hk. implies-intro (s k) (eqb k j || eqb k (j + 1)) (λ u. at k hk u (decLe j k) (decLe (j + 2) k))))
     where
       at : (k : ℕ) → k < 16 → T (s k) → Dec (f .0 ≤ k) → Dec (f .0 + 2 ≤ k) → T (eqb k (f .0) || eqb k (f .0 + 1))
       at k hk u (no l) m = absurd (f .3 k (omega arith) u)
@@ -77,7 +78,8 @@ module _ (s : ℕ → Bool) where
   unfolding within
   none-within e =
       any-intro 16 (within s) 0 (omega arith)
-      (all-intro 16 (near s 0) (λ k hk. implies-intro (s k) (eqb k 0 || eqb k 1) (λ u. absurd (not-elim (anyBelow 16 s) (false-not e) (any-intro 16 s k hk u)))))
+      (all-intro 16 (near s 0) (λ k hk. implies-intro (s k) (eqb k 0 || eqb k 1)
+      (λ u. absurd (not-elim (anyBelow 16 s) (false-not e) (any-intro 16 s k hk u)))))
 
   -- THE LAW: the starts are apart where no {j, j+1} contains them
   pub apart-says : apart s ≡ not (anyBelow 16 (within s))

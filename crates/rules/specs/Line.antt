@@ -143,6 +143,6 @@ spreadAt starts cells i = anyBelow 8 (λ k. cells k && (leb k i && starts (i - k
 unfoldable pub eyesOf : ℕ → Stones → Stones → (ℕ → Bool) → (ℕ → Bool) → ℕ → Bool
 eyesOf size own other starts cells i = spreadAt starts cells i && emptyAt size own other i
 
--- "`score_bound` is 0 when the other colour has more than size − 5 stones on the line, else the own stones plus one." (A mask has 16 cells.)
+-- "`score_bound` is 0 when the other colour has more than size − 5 stones on the line, else the own stones plus one." (Masks have 16 bits.)
 unfoldable pub boundOf : ℕ → Stones → Stones → ℕ
 boundOf size own other = cond (leb (countOf 16 other + 5) size) (countOf 16 own + 1) 0
