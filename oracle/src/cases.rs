@@ -60,7 +60,7 @@ const CROSS: &str = "G8 I8 H7 H9";
 
 /// The plain verdict is the document's where it names one (C10), else the
 /// strict one: no other case has a Four through the point.
-pub const BOARD_CASES: [BoardCase; 8] = [
+pub const BOARD_CASES: [BoardCase; 9] = [
     board_case("C6", "D8 E8 F8 H8 I8", "", "G8", naive::OVERLINE),
     board_case("C7", CROSS, "", "H8", naive::DOUBLE_THREE),
     board_case("C8", CROSS, "E8 K8", "H8", naive::NONE),
@@ -76,6 +76,15 @@ pub const BOARD_CASES: [BoardCase; 8] = [
     },
     board_case("C11", "D8 F8 H8 J8", "", "G8", naive::DOUBLE_FOUR),
     board_case("C12", "E8 F8 G8", "", "H8", naive::NONE),
+    // Not in the table: I8 is free before the stone and a double four with
+    // it, which C1 to C12 do not tell apart (section 9, the fourth error).
+    board_case(
+        "beside C12",
+        "G8 J8 H5 H7 I9 I10 I11",
+        "I12",
+        "H8",
+        naive::NONE,
+    ),
 ];
 
 const fn board_case(

@@ -464,7 +464,7 @@ pub fn strict(cells: &Cells, p: usize) -> Answer {
 }
 
 /// "The forbidden list holds each empty point whose strict verdict is a
-/// kind, by ascending code: kind byte, then code."
+/// kind, by ascending code: kind byte (..), then code."
 pub fn forbidden_list(cells: &Cells) -> Vec<(u8, u8)> {
     (0..POINTS)
         .filter(|&p| cells[p] == EMPTY)

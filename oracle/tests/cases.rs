@@ -1,4 +1,5 @@
-//! Cases C1 to C12 of section 8, on the naive reading and on the original.
+//! Cases C1 to C12 of section 8, and a board beside them, on the naive
+//! reading and on the original.
 
 use oracle::cases::{BOARD_CASES, LINE_CASES, LineCase, TURNING};
 use oracle::naive::{self, BLACK, Kind, WHITE};

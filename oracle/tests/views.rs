@@ -1,7 +1,8 @@
-//! Section 6: the eight views, on the naive reading.
+//! Section 6: the eight views, on the naive reading and on the original.
 
 use oracle::boards::{self, Dice, SORTS};
 use oracle::naive::{self, POINTS};
+use oracle::original;
 
 /// A turned board has the turned list, and at each turned point the verdict
 /// of the point.
@@ -15,10 +16,10 @@ fn views_keep_verdict_and_list() {
         forbidden += list.len();
         for view in 0..8 {
             let turned = naive::turned_board(view, &cells);
-            assert_eq!(
-                naive::forbidden_list(&turned),
-                naive::turned_list(view, &list)
-            );
+            let expected = naive::turned_list(view, &list);
+            assert_eq!(naive::forbidden_list(&turned), expected);
+            let board = original::to_board(&turned);
+            assert_eq!(original::forbidden_list(&board), expected);
             for p in 0..POINTS {
                 let at = naive::turned_point(view, p);
                 let (a, b) = (naive::strict(&cells, p), naive::strict(&turned, at));
@@ -29,16 +30,16 @@ fn views_keep_verdict_and_list() {
     assert!(forbidden > 200);
 }
 
-/// The eight are different, and each is one of the board's own symmetries.
+/// Each sends the 225 points to the 225 points, and no two are the same.
 #[test]
 fn views_are_eight() {
-    let corner_and_edge = |view| [1, 5].map(|p| naive::turned_point(view, p));
+    let of_two_points = |view| [1, 5].map(|p| naive::turned_point(view, p));
     for view in 0..8 {
         let mut seen: Vec<usize> = (0..POINTS).map(|p| naive::turned_point(view, p)).collect();
         seen.sort();
         assert!(seen.into_iter().eq(0..POINTS), "view {view}");
         for other in 0..view {
-            assert_ne!(corner_and_edge(view), corner_and_edge(other));
+            assert_ne!(of_two_points(view), of_two_points(other));
         }
     }
 }

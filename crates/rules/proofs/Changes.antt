@@ -54,6 +54,13 @@ play-map (Remove p ∷ changes) cells e q h =
     ∙ map-same 225 changes (λ q. getD (remove cells p) q 0) (λ q. cond (eqb q p) 0 (getD cells q 0))
     (λ q l. set-at cells p 0 q (omega arith)) q h
 
+-- the board keeps its 225 cells
+pub play-length : (changes : List Change) (cells : List ℕ) → length (play changes cells) ≡ length cells
+unfolding play
+play-length [] cells = refl
+play-length (Put r p ∷ changes) cells = play-length changes (put r cells p) ∙ length-set cells p (colourNo r)
+play-length (Remove p ∷ changes) cells = play-length changes (remove cells p) ∙ length-set cells p 0
+
 -- ---- the number of empty points
 
 pub empties-le : (cells : List ℕ) → empties cells ≤ length cells

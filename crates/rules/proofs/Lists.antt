@@ -1,5 +1,6 @@
 -- The laws of lists made number by number: `tab`, `gather`, and lists of (kind, code) pairs in code order. Assumes nothing.
 use mathlib.Core.Path.{_≡_, refl, sym, ap, ap₂, _∙_}
+use mathlib.Core.Logic.{_⊎_, inl, inr, ⊎-elim}
 use mathlib.Core.Bool.{cond}
 use mathlib.Core.List.{List, [], _∷_, _++_, append-assoc}
 use Prim.Native.Nat.{ℕ, zero, suc, _+_, _≤_, _<_}
@@ -165,15 +166,19 @@ pairs-order kind b a (suc n) h = at (ℕ-discrete (kind a) 0) (pairs-order kind 
     at (yes z) i j = rw (eq-eqb (kind a) 0 z) i
     at (no z) i j = rw (ne-eqb (kind a) 0 z) (z, h, j)
 
--- a code before all that is listed
-listed-before : (kind : ℕ → ℕ) (a n p : ℕ) → p < a → listed (pairs kind a n) p ≡ 0
+-- a code before a, or from a + n on, is not listed
+pub pairs-outside : (kind : ℕ → ℕ) (a n p : ℕ) → (p < a) ⊎ (a + n ≤ p) → listed (pairs kind a n) p ≡ 0
 unfolding pairs
-listed-before kind a zero p h = refl
-listed-before kind a (suc n) p h = at (ℕ-discrete (kind a) 0) (listed-before kind (suc a) n p (omega arith))
+pairs-outside kind a zero p h = refl
+pairs-outside kind a (suc n) p h =
+    at (ℕ-discrete (kind a) 0) (pairs-outside kind (suc a) n p (⊎-elim (λ l. inl (omega arith)) (λ l. inr (omega arith)) h))
   where
+    apart : a ≡ p → ⊥
+    apart e = ⊎-elim (λ l. omega arith) (λ l. omega arith) h
+
     at : Dec (kind a ≡ 0) → listed (pairs kind (suc a) n) p ≡ 0 → listed (pairs kind a (suc n)) p ≡ 0
     at (yes z) ih = ap (λ (l : List ℕ). listed l p) (pairs-skip kind a n z) ∙ ih
-    at (no z) ih = ap (λ (l : List ℕ). listed l p) (pairs-take kind a n z) ∙ rw (ne-eqb a p (λ e. omega arith)) ih
+    at (no z) ih = ap (λ (l : List ℕ). listed l p) (pairs-take kind a n z) ∙ rw (ne-eqb a p apart) ih
 
 pub pairs-listed : (kind : ℕ → ℕ) (a n p : ℕ) → a ≤ p → p < a + n → listed (pairs kind a n) p ≡ kind p
 unfolding pairs
@@ -182,7 +187,7 @@ pairs-listed kind a (suc n) p h l = at (ℕ-discrete a p) (ℕ-discrete (kind a)
   where
     at : Dec (a ≡ p) → Dec (kind a ≡ 0) → (suc a ≤ p → listed (pairs kind (suc a) n) p ≡ kind p) → listed (pairs kind a (suc n)) p ≡ kind p
     at (yes e) (yes z) ih =
-        ap (λ (l : List ℕ). listed l p) (pairs-skip kind a n z) ∙ listed-before kind (suc a) n p (omega arith) ∙ sym z ∙ ap kind e
+        ap (λ (l : List ℕ). listed l p) (pairs-skip kind a n z) ∙ pairs-outside kind (suc a) n p (inl (omega arith)) ∙ sym z ∙ ap kind e
     at (yes e) (no z) ih = ap (λ (l : List ℕ). listed l p) (pairs-take kind a n z) ∙ rw (eq-eqb a p e) (ap kind e)
     at (no e) (yes z) ih = ap (λ (l : List ℕ). listed l p) (pairs-skip kind a n z) ∙ ih (omega arith)
     at (no e) (no z) ih = ap (λ (l : List ℕ). listed l p) (pairs-take kind a n z) ∙ rw (ne-eqb a p e) (ih (omega arith))

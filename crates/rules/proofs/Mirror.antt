@@ -10,7 +10,7 @@ use Rattle.rules.specs.Line.{Stones, inside, free, count, beside, dead, 
 use Rattle.rules.specs.Line.{among, emptyAt, eyeSpan, isEye}
 use Rattle.rules.specs.declared.RowKind.{RowKind}
 use Rattle.rules.specs.declared.RowKind.the-variants.{Two, Three, Straight, Sword, Four, Five, Overlining, Overlined}
-use Rattle.rules.proofs.Logic.{and-left, and-right, and-intro, along, not-false, false-not, implies, implied}
+use Rattle.rules.proofs.Logic.{and-left, and-right, and-intro, along, not-false, false-not, implies, implied, both-ways}
 use Rattle.rules.proofs.Tables.{at5, table5}
 use Rattle.rules.proofs.Windows.{scored, held, pair-elim, pair-intro}
 
@@ -20,6 +20,9 @@ pub record Mirror (n : ℕ) (f g : Stones) : Type 0 where
   pub across : (j k : ℕ) → j + k + 1 ≡ n → g k ≡ f j
   pub leftOut : (j : ℕ) → n ≤ j → f j ≡ false
   pub rightOut : (j : ℕ) → n ≤ j → g j ≡ false
+
+pub turn-round : {n : ℕ} {f g : Stones} → Mirror n f g → Mirror n g f
+turn-round m = record { across = λ j k e. sym (m .across k j (omega arith)); leftOut = m .rightOut; rightOut = m .leftOut }
 
 -- the window at s of g is the window at j of f
 module _ (n : ℕ) (f g : Stones) (m : Mirror n f g) (j s : ℕ) (e : j + s + 5 ≡ n) where
@@ -151,7 +154,7 @@ module _ (black : Bool) (n : ℕ) (o w o′ w′ : Stones) (mo : Mirror n o o′
   score-back : (k j s : ℕ) → j + s + 5 ≡ n → T (scores black n o w k j) → T (scores black n o′ w′ k s)
   score-back k j s e t = along (sym (scores-back k j s e)) t
 
-  -- THE LAW: a row of a kind at j stands, read backwards, at n − span − j
+  -- a row of a kind at j stands, read backwards, at n − span − j
   pub row-back : (k : RowKind) (j s : ℕ) → j + s + span k ≡ n → T (rowAt black n o w k j) → T (rowAt black n o′ w′ k s)
   unfolding rowAt
   row-back Two j s e t = open-back 2 j s e t
@@ -173,3 +176,11 @@ module _ (black : Bool) (n : ℕ) (o w o′ w′ : Stones) (mo : Mirror n o o′
       (and-intro (ltb h n) (not (o′ h) && not (w′ h)) (lt→ltb h n (omega arith))
       (along (sym (ap₂ (λ (x y : Bool). not x && not y) (mo .across i h e′) (mw .across i h e′)))
       (and-right (ltb i n) (not (o i) && not (w i)) z)))
+
+-- THE LAW: a row stands at s of the one line exactly where it stands at j of the other
+pub row-mirror : (black : Bool) (n : ℕ) (o w o′ w′ : Stones) → Mirror n o o′ → Mirror n w w′ → (k : RowKind) (j s : ℕ) → j + s + span k ≡ n
+    → rowAt black n o′ w′ k s ≡ rowAt black n o w k j
+row-mirror black n o w o′ w′ mo mw k j s e =
+    both-ways (rowAt black n o′ w′ k s) (rowAt black n o w k j)
+    (row-back black n o′ w′ o w (turn-round mo) (turn-round mw) k s j (omega arith))
+    (row-back black n o w o′ w′ mo mw k j s e)

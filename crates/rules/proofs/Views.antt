@@ -1,5 +1,6 @@
 -- Demand 3: in all eight views the verdicts are the same at the turned point, and the forbidden list is the turned list. Assumes nothing.
 use mathlib.Core.Path.{_≡_, refl, sym, ap, _∙_}
+use mathlib.Core.Logic.{inr}
 use mathlib.Core.Bool.{cond}
 use mathlib.Core.List.{List}
 use Prim.Native.Nat.{ℕ, zero, suc, _+_, _≤_, _<_}
@@ -14,7 +15,7 @@ use Rattle.rules.specs.Numbers.{verdictNo}
 use Rattle.rules.specs.Forbidden.{entry, strictOf, plainOf, forbiddenList}
 use Rattle.rules.specs.Views.{turn, undo, turnCells, insert, turnList}
 use Rattle.rules.proofs.Lists.{length-tab, getD-tab, gather-cong, pairs, pairs-skip, pairs-take, pairs-same, pairs-none}
-use Rattle.rules.proofs.Lists.{gather-pairs, insert-pairs, InOrder, listed, pairs-order, pairs-listed}
+use Rattle.rules.proofs.Lists.{gather-pairs, insert-pairs, InOrder, listed, pairs-order, pairs-listed, pairs-outside}
 use Rattle.rules.proofs.Turns.{turn-lt, turn-undo, undo-lt, undo-undo}
 use Rattle.rules.proofs.Eight.{Turned, Blind, strict-blind, plain-blind}
 use Rattle.rules.proofs.Changes.{empties-le}
@@ -85,6 +86,9 @@ list-order cells = rw (list-pairs cells) (pairs-order (kinds cells) 0 0 225 (ome
 
 pub list-names : (cells : List ℕ) (p : ℕ) → p < 225 → listed (forbiddenList cells) p ≡ verdictNo (strictOf cells p)
 list-names cells p hp = rw (list-pairs cells) (pairs-listed (kinds cells) 0 225 p (omega arith) (omega arith))
+
+pub list-names-only : (cells : List ℕ) (p : ℕ) → 225 ≤ p → listed (forbiddenList cells) p ≡ 0
+list-names-only cells p hp = rw (list-pairs cells) (pairs-outside (kinds cells) 0 225 p (inr (omega arith)))
 
 -- ---- the turned list
 

@@ -124,3 +124,9 @@ cases =
     -- C12 E8 F8 G8, at H8: none
     ∷ strictIs (E 8 ∷ F 8 ∷ G 8 ∷ []) [] (H 8) None
     ∷ []
+
+-- Beside the table: C1 to C12 do not tell the board with the stone from "only the board before the stone when asking whether a Three is
+-- real" (section 9). Black G8 J8 H5 H7 I9 I10 I11, White I12, at H8: I8, the eye of the Three G8 H8 J8, is free before the stone and a
+-- double four with it, so that Three is not real and one is left: none.
+unfoldable pub stoneIsOn : Bool
+stoneIsOn = strictIs (G 8 ∷ J 8 ∷ H 5 ∷ H 7 ∷ I 9 ∷ I 10 ∷ I 11 ∷ []) (I 12 ∷ []) (H 8) None

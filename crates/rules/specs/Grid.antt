@@ -19,15 +19,15 @@ use Rattle.rules.specs.declared.RowKind.the-variants.{Four}
 abbrev pub isEmpty : ℕ → Bool
 isEmpty v = not (eqb v 1) && not (eqb v 2)
 
--- "Put replaces what stood there"; remove leaves the point empty
+-- "Put replaces what stood there; remove of an empty point changes nothing." (proofs/Changes.antt, set-at and remove-none)
 abbrev pub put : Player → List ℕ → ℕ → List ℕ
 put r cells p = set cells p (colourNo r)
 
 abbrev pub remove : List ℕ → ℕ → List ℕ
 remove cells p = set cells p 0
 
--- a put or a remove, and a sequence of both: on the cells, and on a plain map from points to 0 empty, 1 black, 2 white.
--- "Any sequence of both answers as a plain map": proofs/Changes.antt
+-- A put or a remove, and a sequence of both: on the cells, and on a plain map. "Any sequence of both answers as a plain map from 225 points
+-- to empty, black or white." (proofs/Changes.antt, play-map)
 pub data Change : Type 0 where
   Put : Player → ℕ → Change
   Remove : ℕ → Change
@@ -47,7 +47,7 @@ unfoldable pub empties : List ℕ → ℕ
 empties [] = 0
 empties (v ∷ cells) = cond (isEmpty v) (suc (empties cells)) (empties cells)
 
--- "lists of stones and of empty points ascend by code"
+-- "Points come as codes; lists of stones and of empty points ascend by code."
 unfoldable pub stonesOf : Player → List ℕ → List ℕ
 stonesOf r cells = gather 225 (λ p. only (eqb (getD cells p 0) (colourNo r)) (p ∷ []))
 
@@ -109,7 +109,7 @@ unfoldable pub fourEyes : Player → List ℕ → ℕ → List ℕ
 fourEyes r cells p =
     gather 4 (λ d. gather (lineSize d (lineNo d p)) (λ e. only (fourEye r cells p d e) (pointAt d (lineNo d p) e ∷ [])))
 
--- "the cells from −n to +n in each direction": cell c + s − n of the line is on it
+-- cell c + s − n is on a line of this size
 unfoldable pub onLine : ℕ → ℕ → ℕ → ℕ → Bool
 onLine size c n s = leb n (c + s) && ltb (c + s - n) size
 

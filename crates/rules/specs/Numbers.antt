@@ -11,7 +11,7 @@ use Rattle.rules.specs.declared.RowKind.the-variants.{Two, Three, Straig
 use Rattle.rules.specs.declared.Verdict.{Verdict}
 use Rattle.rules.specs.declared.Verdict.the-variants.{None, DoubleThree, DoubleFour, Overline}
 
--- "a colour: 1 Black and 2 White"
+-- "1 Black and 2 White"
 abbrev pub colourNo : Player → ℕ
 colourNo Black = 1
 colourNo White = 2

@@ -4,7 +4,7 @@ use mathlib.Core.Bool.{Bool, true, _&&_, cond}
 use Prim.Native.Nat.{ℕ, zero, suc, _+_, _-_, _*_, _/_, _%_}
 use lib.Dec.{ltb, leb}
 
--- "x and y run 0 to 14; code = 15x + y."
+-- "x and y run 0 to 14; code = 15x + y. A1 is 0, H8 is 112, O15 is 224." (proofs/Address.antt, named)
 abbrev pub xOf : ℕ → ℕ
 xOf p = p / 15
 

@@ -115,6 +115,7 @@ fn block(out: &mut Records, cells: &Cells, extent: Extent, dice: &mut Dice) {
     if extent != Extent::Short {
         rows_on(out, &board, dice);
         four_eyes(out, &board, dice);
+        repeated_eyes(out, &board);
         neighbours(out, &board, dice);
     }
 }
@@ -184,6 +185,19 @@ fn four_eyes(out: &mut Records, board: &Board, dice: &mut Dice) {
         };
         if *left > 0 {
             *left -= 1;
+            out.record('e', &[byte(p), byte(colour), list(&found)]);
+        }
+    }
+}
+
+/// Four eyes through empty points that come themselves more than once, as
+/// they complete a five on several lines.
+fn repeated_eyes(out: &mut Records, board: &Board) {
+    let mut left = 2;
+    for (p, colour) in (0..225).flat_map(|p| [(p, 1), (p, 2)]) {
+        let found = original::four_eyes_on(board, p, colour);
+        if left > 0 && found.iter().filter(|&&eye| eye == p).count() > 1 {
+            left -= 1;
             out.record('e', &[byte(p), byte(colour), list(&found)]);
         }
     }

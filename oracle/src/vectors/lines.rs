@@ -129,6 +129,14 @@ fn by_number(out: &mut Records, stones: Stones, colour: u8, n: u8) {
     out.record('q', &fields);
 }
 
+/// `z`: the empty cells s + k, for s of some starts and k of some cells.
+fn eyes_of(out: &mut Records, stones: Stones, starts: u16, cells: u8) {
+    let eyes = line_of(stones).eyes_of(starts, cells);
+    let mut fields = head(stones);
+    fields.extend([mask(starts), byte(cells), mask(eyes)]);
+    out.record('z', &fields);
+}
+
 /// `g`: one window with its margins.
 fn one_window(out: &mut Records, stones: Stones, j: u8) {
     let segment = line_of(stones).segment(j);
@@ -176,4 +184,7 @@ fn single_questions(out: &mut Records, dice: &mut Dice, size: u8) {
     by_number(out, stones, colour, n);
     let stones = some_line(dice, size);
     one_window(out, stones, dice.below(size as usize - 4) as u8);
+    let stones = some_line(dice, size);
+    let (starts, cells) = (dice.below(1 << size) as u16, dice.below(256) as u8);
+    eyes_of(out, stones, starts, cells);
 }

@@ -24,9 +24,9 @@ No line but a text is over 4,200 bytes.
 - `b CELLS` opens a block; the records below are about that board. The
   comment before it names its sort, its stones and how many strict questions
   stand inside one another at the deepest point. Sorts: empty, full, the cases
-  C6 to C12, small boards whose verdict turns on one answer inside, random,
-  clustered, dense black, dense white, nested (4 or more questions inside one
-  another), games of 8, 20, 40 and 80 moves.
+  C6 to C12 and a board beside them, small boards whose verdict turns on one
+  answer inside, random, clustered, dense black, dense white, nested (4 or more
+  questions inside one another), games of 8, 20, 40 and 80 moves.
 - `s VERDICTS` 225 digits, the strict verdict at every code.
 - `p VERDICTS` 225 characters, the plain verdict at every empty code, `-` at
   an occupied one.
@@ -48,6 +48,7 @@ Every record starts with `SIZE BLACKS WHITES`, the line's size and two masks.
 - `c .. CELL STARTS` 16 masks of `row_starts_on` for the cell.
 - `q .. COLOUR N COUNT SCORE OPEN` `count_mask`, `score_mask` and `open_starts`
   for the number N, 00 to 0f.
+- `z .. STARTS CELLS EYES` `eyes_of` for a mask of starts and a byte of cells.
 - `g .. J BLACKS WHITES` and then pairs for Black and White: score (ff is -1),
   count, free, alive, `stone_bits`, `eye_bits`. The window's own two masks have
   bit 0 for the cell before it, bits 1 to 5 for its cells, bit 6 for the cell
