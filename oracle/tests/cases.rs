@@ -5,26 +5,22 @@ use oracle::cases::{BOARD_CASES, LINE_CASES, LineCase, TURNING};
 use oracle::naive::{self, BLACK, Kind, WHITE};
 use oracle::original;
 
-/// The starts of both, which must agree.
-fn starts(case: &LineCase, colour: u8, kind: Kind) -> Vec<usize> {
-    let cells = case.cells();
-    let naive = naive::starts(&cells, colour, kind);
-    let line = line_of(&cells);
-    let k = original::KINDS[kind as usize];
-    let mask = line.row_starts(original::player(colour), k);
+/// The cells that the naive reading names, which the original's mask must name too.
+fn agreed(case: &LineCase, kind: Kind, naive: Vec<usize>, mask: u16) -> Vec<usize> {
     assert_eq!(set_bits(mask), naive, "{} {kind:?}", case.name);
     naive
 }
 
-/// The eyes of both, which must agree.
+fn starts(case: &LineCase, colour: u8, kind: Kind) -> Vec<usize> {
+    let (cells, k) = (case.cells(), original::KINDS[kind as usize]);
+    let mask = line_of(&cells).row_starts(original::player(colour), k);
+    agreed(case, kind, naive::starts(&cells, colour, kind), mask)
+}
+
 fn eyes(case: &LineCase, colour: u8, kind: Kind) -> Vec<usize> {
-    let cells = case.cells();
-    let naive = naive::row_eyes(&cells, colour, kind);
-    let line = line_of(&cells);
-    let k = original::KINDS[kind as usize];
-    let mask = line.row_eyes(original::player(colour), k);
-    assert_eq!(set_bits(mask), naive, "{} {kind:?}", case.name);
-    naive
+    let (cells, k) = (case.cells(), original::KINDS[kind as usize]);
+    let mask = line_of(&cells).row_eyes(original::player(colour), k);
+    agreed(case, kind, naive::row_eyes(&cells, colour, kind), mask)
 }
 
 fn set_bits(mask: u16) -> Vec<usize> {

@@ -51,9 +51,12 @@ pub bit-suc : (m j : ℕ) → bit m (suc j) ≡ bit (m / 2) j
 unfolding bit
 bit-suc m j = ap (λ (x : ℕ). eqb (x % 2) 1) (ap (λ (k : ℕ). m / 2 ^ k) (sym (one-add j)) ∙ sym (shr-shr m 1 j))
 
+pub low-bit : (m : ℕ) → m % 2 ≡ digit (bit m 0)
+low-bit m = low-digit m ∙ ap digit (sym (bit-zero m))
+
 -- the digits of a number from its bit 0 and its half
 pub halves : (m : ℕ) → m ≡ m / 2 * 2 + digit (bit m 0)
-halves m = sym (div-add-mod' m 2) ∙ ap (λ (x : ℕ). m / 2 * 2 + x) (low-digit m ∙ ap digit (sym (bit-zero m)))
+halves m = sym (div-add-mod' m 2) ∙ ap (λ (x : ℕ). m / 2 * 2 + x) (low-bit m)
 
 -- ---- &, | and ^
 module _ (op : ℕ → ℕ → ℕ) (bop : Bool → Bool → Bool)
@@ -122,7 +125,7 @@ at j e = ap (λ (x : ℕ). bit x j) e
 mod-suc : (m w : ℕ) → m % 2 ^ suc w ≡ (m / 2 % 2 ^ w) * 2 + digit (bit m 0)
 mod-suc m w =
     ap (λ (x : ℕ). m % x) (pow-suc 2 w) ∙ mod-mul m (pow-pos w) (lit< tt)
-    ∙ ap (λ (x : ℕ). (m / 2 % 2 ^ w) * 2 + x) (low-digit m ∙ ap digit (sym (bit-zero m)))
+    ∙ ap (λ (x : ℕ). (m / 2 % 2 ^ w) * 2 + x) (low-bit m)
 
 pub bit-mod : (m w j : ℕ) → j < w → bit (m % 2 ^ w) j ≡ bit m j
 bit-mod m zero j h = absurd (omega arith)
@@ -301,14 +304,14 @@ pub low-below : (w n j : ℕ) → j < trailingZeros w n → bit n j ≡ false
 unfolding trailingZeros
 low-below zero n j h = absurd (omega arith)
 low-below (suc w) n zero h = go (bit n 0) refl (subst (λ (d : ℕ). 0 < under d (trailingZeros w (n / 2)))
-    (low-digit n ∙ ap digit (sym (bit-zero n))) h)
+    (low-bit n) h)
   where
     go : (b : Bool) → bit n 0 ≡ b → 0 < under (digit (bit n 0)) (trailingZeros w (n / 2)) → bit n 0 ≡ false
     go true e g = absurd (not-suc-le-zero (subst (λ (b : Bool). 0 < under (digit b) (trailingZeros w (n / 2))) e g))
     go false e g = e
 low-below (suc w) n (suc j) h =
     bit-suc n j ∙ go (λ g. low-below w (n / 2) j g) (bit n 0)
-    (subst (λ (d : ℕ). suc j < under d (trailingZeros w (n / 2))) (low-digit n ∙ ap digit (sym (bit-zero n))) h)
+    (subst (λ (d : ℕ). suc j < under d (trailingZeros w (n / 2))) (low-bit n) h)
   where
     go : (j < trailingZeros w (n / 2) → bit (n / 2) j ≡ false) → (b : Bool) → suc j < under (digit b) (trailingZeros w (n / 2))
         → bit (n / 2) j ≡ false
@@ -319,9 +322,9 @@ pub low-set : (w n : ℕ) → trailingZeros w n < w → bit n (trailingZeros w n
 unfolding trailingZeros
 low-set zero n h = absurd (omega arith)
 low-set (suc w) n h =
-    ap (λ (d : ℕ). bit n (under d (trailingZeros w (n / 2)))) (low-digit n ∙ ap digit (sym (bit-zero n)))
+    ap (λ (d : ℕ). bit n (under d (trailingZeros w (n / 2)))) (low-bit n)
     ∙ go (λ g. low-set w (n / 2) g) (bit n 0) refl (subst (λ (d : ℕ). under d (trailingZeros w (n / 2)) < suc w)
-    (low-digit n ∙ ap digit (sym (bit-zero n))) h)
+    (low-bit n) h)
   where
     go : (trailingZeros w (n / 2) < w → bit (n / 2) (trailingZeros w (n / 2)) ≡ true) → (b : Bool) → bit n 0 ≡ b
         → under (digit (bit n 0)) (trailingZeros w (n / 2)) < suc w → bit n (under (digit (bit n 0)) (trailingZeros w (n / 2))) ≡ true
@@ -347,7 +350,7 @@ unfolding countOf
 count-ones zero n h = ap ones (lt-one h) ∙ ones-ones 0
 count-ones (suc w) n h =
     ones-step n
-    ∙ ap₂ (λ (a b : ℕ). a + b) (low-digit n ∙ ap digit (sym (bit-zero n)))
+    ∙ ap₂ (λ (a b : ℕ). a + b) (low-bit n)
     (count-ones w (n / 2) (half-below n w h) ∙ count-cong w (bit (n / 2)) (λ j. bit n (suc j)) (λ j k. sym (bit-suc n j)))
 
 -- ---- from a mask back to its test: at every place, where the test fails past the width

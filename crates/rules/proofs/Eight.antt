@@ -23,7 +23,7 @@ use Rattle.rules.specs.declared.RowKind.the-variants.{Two, Three, Straig
 use Rattle.rules.specs.declared.Verdict.{Verdict}
 use Rattle.rules.proofs.Logic.{and-left, and-right, and-intro, both-ways, any-elim, any-intro}
 use Rattle.rules.proofs.Address.{point-lt, line-here, size-le}
-use Rattle.rules.proofs.Turns.{turnDir, flips, matched, turn-lt, turn-undo, undo-lt, undo-undo, dir-lt, dir-undo, turn-size}
+use Rattle.rules.proofs.Turns.{turnDir, flips, matched, turn-lt, turn-undo, turn-home, undo-lt, dir-lt, dir-undo, turn-size}
 use Rattle.rules.proofs.Turns.{turn-cell, turn-point}
 use Rattle.rules.proofs.Mirror.{Mirror, row-back, eye-back, among-back}
 use Rattle.rules.proofs.More.{TwoApart, Carried, someRow-carried, more-carried}
@@ -43,8 +43,7 @@ turned-back {v} {A} {B} hv t =
       same =
           λ q hq.
           sym (t .same (turn (undo v) q) (turn-lt (undo v) q (undo-lt v hv) hq))
-          ∙ ap (λ (x : ℕ). getD B x 0) (ap (λ (w : ℕ). turn w (turn (undo v) q)) (sym (undo-undo v)) ∙ turn-undo (undo v) q
-          (undo-lt v hv) hq);
+          ∙ ap (λ (x : ℕ). getD B x 0) (turn-home v q hv hq);
     }
 
 pub turn-one : (v p q : ℕ) → v < 8 → p < 225 → q < 225 → turn v p ≡ turn v q → p ≡ q

@@ -2,6 +2,7 @@
 use mathlib.Core.Path.{_≡_, refl, sym, ap, ap₂, _∙_}
 use mathlib.Core.Bool.{Bool, true, false, not, _&&_, _||_, or-comm}
 use Prim.Native.Nat.{ℕ, zero, suc, _+_, _-_, _≤_, _<_}
+use native.Mathlib.Nat.{add-zero}
 use native.Mathlib.Omega.{arith}
 use lib.Dec.{T, leb, ltb, leb→le, le→leb, ltb→lt, lt→ltb}
 use borrow.Author.Tests.{le-leb, lt-leb}
@@ -10,9 +11,9 @@ use Rattle.rules.specs.Line.{Stones, inside, free, count, beside, dead, 
 use Rattle.rules.specs.Line.{among, emptyAt, eyeSpan, isEye}
 use Rattle.rules.specs.declared.RowKind.{RowKind}
 use Rattle.rules.specs.declared.RowKind.the-variants.{Two, Three, Straight, Sword, Four, Five, Overlining, Overlined}
-use Rattle.rules.proofs.Logic.{and-left, and-right, and-intro, along, not-false, false-not, implies, implied, both-ways}
-use Rattle.rules.proofs.Tables.{at5, table5}
-use Rattle.rules.proofs.Windows.{scored, held, pair-elim, pair-intro}
+use Rattle.rules.proofs.Logic.{and-left, and-right, and-intro, along, not-false, false-not, both-ways}
+use Rattle.rules.proofs.Tables.{table5}
+use Rattle.rules.proofs.Windows.{scored, held, free-at, pair-elim, pair-intro}
 
 -- ---- g is f read backwards on a line of n cells, with no stone outside
 
@@ -91,15 +92,6 @@ ends own k i p q =
     let r = rw (step own i 1 2 refl, step own i 2 3 refl, step own i 3 4 refl, step own i 4 5 refl) at q in
     digits (own i) (own (i + 5)) (omega arith)
 
-first-free : (other : Stones) (i : ℕ) → T (free other i) → other i ≡ false
-unfolding free
-first-free other i t =
-    not-false
-    (implied (not (other i) && not (other (i + 1)) && not (other (i + 2)) && not (other (i + 3)) && not (other (i + 4))) (not (other i))
-    (at5 (λ a b c d e. implies (not a && not b && not c && not d && not e) (not a)) tt (other i) (other (i + 1)) (other (i + 2))
-    (other (i + 3)) (other (i + 4)))
-    t)
-
 -- a cell among m cells, both read backwards
 pub among-back : (m n j s i h : ℕ) → j + s + m ≡ n → i + h + 1 ≡ n → T (among m j i) → T (among m s h)
 unfolding among
@@ -149,7 +141,8 @@ module _ (black : Bool) (n : ℕ) (o w o′ w′ : Stones) (mo : Mirror n o o′
       (pair-back (scores black n o w k) (scores black n o′ w′ k) (λ j t. scored black n o w k j t .fits) (scores-back k) j s e u)
       (and-intro (not (o′ (s + 4))) (not (w′ (s + 4)))
       (false-not (mo .across (p .i) (s + 4) (omega arith) ∙ own ∙ last ∙ none))
-      (false-not (mw .across (p .i) (s + 4) (omega arith) ∙ first-free w (p .i) (a .isFree))))
+      (false-not (mw .across (p .i) (s + 4) (omega arith) ∙ ap w (sym (add-zero (p .i))) ∙ not-false
+      (free-at w (p .i) 0 (omega arith) (a .isFree)))))
 
   score-back : (k j s : ℕ) → j + s + 5 ≡ n → T (scores black n o w k j) → T (scores black n o′ w′ k s)
   score-back k j s e t = along (sym (scores-back k j s e)) t

@@ -34,6 +34,10 @@ pub turn-undo : (v p : ℕ) → v < 8 → p < 225 → turn (undo v) (turn v p) �
 unfolding allBelow turn undo
 turn-undo v p hv hp = eqb→eq (turn (undo v) (turn v p)) p (all2 8 225 (λ v p. eqb (turn (undo v) (turn v p)) p) tt v p hv hp)
 
+-- a point is where the view sent the point that the undoing view gives
+pub turn-home : (v q : ℕ) → v < 8 → q < 225 → turn v (turn (undo v) q) ≡ q
+turn-home v q hv hq = ap (λ (w : ℕ). turn w (turn (undo v) q)) (sym (undo-undo v)) ∙ turn-undo (undo v) q (undo-lt v hv) hq
+
 -- ---- lines: where a view sends the lines of a direction, and which way their cells then run
 
 -- the direction that the lines of direction d have in view v: view by view, direction by direction

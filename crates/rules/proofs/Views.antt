@@ -16,7 +16,7 @@ use Rattle.rules.specs.Forbidden.{entry, strictOf, plainOf, forbiddenLis
 use Rattle.rules.specs.Views.{turn, undo, turnCells, insert, turnList}
 use Rattle.rules.proofs.Lists.{length-tab, getD-tab, gather-cong, pairs, pairs-skip, pairs-take, pairs-same, pairs-none}
 use Rattle.rules.proofs.Lists.{gather-pairs, insert-pairs, InOrder, listed, pairs-order, pairs-listed, pairs-outside}
-use Rattle.rules.proofs.Turns.{turn-lt, turn-undo, undo-lt, undo-undo}
+use Rattle.rules.proofs.Turns.{turn-lt, turn-undo, turn-home, undo-lt}
 use Rattle.rules.proofs.Eight.{Turned, Blind, strict-blind, plain-blind}
 use Rattle.rules.proofs.Changes.{empties-le}
 use Rattle.rules.proofs.Fuel.{strictOf-deep}
@@ -34,10 +34,6 @@ turned-cells v cells hv l =
           getD-tab 225 (λ q. getD cells (turn (undo v) q) 0) (turn v p) (turn-lt v p hv hp)
           ∙ ap (λ (x : ℕ). getD cells x 0) (turn-undo v p hv hp);
     }
-
--- a point is where the view sent the point that the undoing view gives
-pub turn-home : (v q : ℕ) → v < 8 → q < 225 → turn v (turn (undo v) q) ≡ q
-turn-home v q hv hq = ap (λ (w : ℕ). turn w (turn (undo v) q)) (sym (undo-undo v)) ∙ turn-undo (undo v) q (undo-lt v hv) hq
 
 -- "and nothing else": a board is turned in one way
 pub turned-one : {v : ℕ} {A B : List ℕ} → v < 8 → Turned v A B → B ≡ turnCells v A

@@ -1,14 +1,17 @@
 -- Windows and rows of one line: what a passed test says. Assumes nothing.
-use mathlib.Core.Path.{_≡_, subst}
+use mathlib.Core.Path.{_≡_, refl, sym, subst, ap}
 use mathlib.Core.Bool.{Bool, true, false, not, _&&_, _||_, and-false}
 use Prim.Native.Nat.{ℕ, zero, suc, _+_, _-_, _≤_, _<_}
+use native.Mathlib.Nat.{add-zero}
 use native.Mathlib.Omega.{arith}
 use lib.Dec.{T, leb, eqb, eqb→eq, leb→le, le→leb}
 use borrow.Author.Tests.{ne-eqb}
+use Rattle.rules.specs.Tools.{allBelow}
 use Rattle.rules.specs.Line.{Stones, inside, free, count, beside, dead, scores, holds, pairAt, noStone, openAt, overAt, rowAt}
 use Rattle.rules.specs.declared.RowKind.{RowKind}
 use Rattle.rules.specs.declared.RowKind.the-variants.{Two, Three, Straight, Sword, Four, Five, Overlining, Overlined}
-use Rattle.rules.proofs.Logic.{and-left, and-right, and-intro}
+use Rattle.rules.proofs.Logic.{and-left, and-right, and-intro, implies, implied, all-elim}
+use Rattle.rules.proofs.Tables.{at5}
 use Rattle.rules.proofs.Bits.{digit-lt}
 
 -- no window holds more than five own stones: 6 and 7 match nothing
@@ -54,6 +57,37 @@ pub held : (size : ℕ) (own other : Stones) (k j : ℕ) → T (holds size own o
 unfolding holds inside
 held size own other k j t =
     leb→le (j + 5) size (and-left (leb (j + 5) size) (free other j) (and-left (leb (j + 5) size && free other j) (eqb (count own j) k) t))
+
+-- cell k of a window's five
+abbrev pub five : Bool → Bool → Bool → Bool → Bool → ℕ → Bool
+five a b c d e zero = a
+five a b c d e (suc zero) = b
+five a b c d e (suc (suc zero)) = c
+five a b c d e (suc (suc (suc zero))) = d
+five a b c d e (suc (suc (suc (suc k)))) = e
+
+pub five-at : (f : Stones) (j k : ℕ) → k < 5 → five (f j) (f (j + 1)) (f (j + 2)) (f (j + 3)) (f (j + 4)) k ≡ f (j + k)
+five-at f j zero h = ap f (sym (add-zero j))
+five-at f j (suc zero) h = refl
+five-at f j (suc (suc zero)) h = refl
+five-at f j (suc (suc (suc zero))) h = refl
+five-at f j (suc (suc (suc (suc zero)))) h = refl
+five-at f j (suc (suc (suc (suc (suc k))))) h = absurd (omega arith)
+
+no-other : (a b c d e : Bool) → T (not a && not b && not c && not d && not e) → (k : ℕ) → k < 5 → T (not (five a b c d e k))
+unfolding allBelow
+no-other a b c d e t k hk =
+    implied (not a && not b && not c && not d && not e) (not (five a b c d e k))
+    (all-elim 5 (λ k. implies (not a && not b && not c && not d && not e) (not (five a b c d e k)))
+    (at5 (λ a b c d e. allBelow 5 (λ k. implies (not a && not b && not c && not d && not e) (not (five a b c d e k)))) tt a b c d e) k hk)
+    t
+
+-- a free window has no stone of the other colour on any of its cells
+pub free-at : (other : Stones) (j k : ℕ) → k < 5 → T (free other j) → T (not (other (j + k)))
+unfolding free
+free-at other j k hk t =
+    subst (λ (b : Bool). T (not b)) (five-at other j k hk)
+    (no-other (other j) (other (j + 1)) (other (j + 2)) (other (j + 3)) (other (j + 4)) t k hk)
 
 -- windows j−1 and j both pass: j is i + 1
 pub record Pair (w : ℕ → Bool) (j : ℕ) : Type 0 where
