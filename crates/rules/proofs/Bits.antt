@@ -3,13 +3,13 @@ use mathlib.Core.Path.{_≡_, refl, sym, ap, ap₂, _∙_, subst, fun-ext}
 use mathlib.Core.Bool.{Bool, true, false, not, _&&_, _||_}
 use mathlib.Core.Logic.{_⊎_, inl, inr, ⊎-elim}
 use Prim.Native.Nat.{ℕ, zero, suc, _+_, _-_, _*_, _/_, _%_, _^_, _≤_, _<_}
-use native.Mathlib.Nat.{pow-suc, add-comm, div-add-mod', add-zero, mul-one, mul-assoc, div-one, mod-lt, zero-div, sub-zero, lt-of-not-le}
-use native.Mathlib.Nat.{one-mul, le-of-suc-le-suc, not-suc-le-zero, lt-of-lt-of-le}
+use native.Mathlib.Nat.{pow-suc, add-comm, div-add-mod', add-zero, mul-one, mul-assoc, div-one, mod-lt, zero-div, sub-zero}
+use native.Mathlib.Nat.{one-mul}
 use native.Mathlib.Numerals.{one-add}
 use native.Mathlib.Omega.{arith}
 use lib.Dec.{T, eqb, leb, ltb, lit<, leb·zero, leb·suc-zero, leb·suc-suc, eqb·zero-suc, eqb·suc-zero, eqb·suc-suc}
 use lib.Arith.{lt-one, mod-mul, dbl-pred}
-use lib.Count.{trailingZeros, under, ones, ones-step, ones-ones}
+use lib.Count.{ones, ones-step, ones-ones}
 use lib.Pow.{shr-shr, pow-pos, ones-sub-lt}
 use lib.Bits.{bitAnd, bitOr, bitXor, and-lt, or-lt, and-high, and-mask, and-shr, or-shr, xor-shr, and-mod, or-mod, xor-mod}
 use borrow.Author.Tests.{lt-ltb, le-ltb, leb-true, leb-false, eq-eqb, ne-eqb, eqb-true}
@@ -32,10 +32,6 @@ low-digit n = ⊎-elim (λ e. e ∙ ap (λ (x : ℕ). digit (eqb x 1)) (sym e)) 
 pub digit-lt : (b : Bool) → digit b < 2
 digit-lt true = lit< tt
 digit-lt false = lit< tt
-
-digit-test : (b : Bool) → eqb (digit b) 1 ≡ b
-digit-test true = refl
-digit-test false = refl
 
 -- the definition of `bit`
 pub bit-is : (n k : ℕ) → bit n k ≡ eqb (n / 2 ^ k % 2) 1
@@ -298,44 +294,6 @@ mask-any w f =
 
     set-bit : (j : ℕ) → j < w → T (f j) → maskOf w f ≡ 0 → ⊥
     set-bit j k t z = no-true (sym (bit-none j) ∙ at j (sym z) ∙ bit-mask w f j k ∙ T-true t)
-
--- ---- the lowest set bit
-pub low-below : (w n j : ℕ) → j < trailingZeros w n → bit n j ≡ false
-unfolding trailingZeros
-low-below zero n j h = absurd (omega arith)
-low-below (suc w) n zero h = go (bit n 0) refl (subst (λ (d : ℕ). 0 < under d (trailingZeros w (n / 2)))
-    (low-bit n) h)
-  where
-    go : (b : Bool) → bit n 0 ≡ b → 0 < under (digit (bit n 0)) (trailingZeros w (n / 2)) → bit n 0 ≡ false
-    go true e g = absurd (not-suc-le-zero (subst (λ (b : Bool). 0 < under (digit b) (trailingZeros w (n / 2))) e g))
-    go false e g = e
-low-below (suc w) n (suc j) h =
-    bit-suc n j ∙ go (λ g. low-below w (n / 2) j g) (bit n 0)
-    (subst (λ (d : ℕ). suc j < under d (trailingZeros w (n / 2))) (low-bit n) h)
-  where
-    go : (j < trailingZeros w (n / 2) → bit (n / 2) j ≡ false) → (b : Bool) → suc j < under (digit b) (trailingZeros w (n / 2))
-        → bit (n / 2) j ≡ false
-    go ih true g = absurd (not-suc-le-zero g)
-    go ih false g = ih (le-of-suc-le-suc g)
-
-pub low-set : (w n : ℕ) → trailingZeros w n < w → bit n (trailingZeros w n) ≡ true
-unfolding trailingZeros
-low-set zero n h = absurd (omega arith)
-low-set (suc w) n h =
-    ap (λ (d : ℕ). bit n (under d (trailingZeros w (n / 2)))) (low-bit n)
-    ∙ go (λ g. low-set w (n / 2) g) (bit n 0) refl (subst (λ (d : ℕ). under d (trailingZeros w (n / 2)) < suc w)
-    (low-bit n) h)
-  where
-    go : (trailingZeros w (n / 2) < w → bit (n / 2) (trailingZeros w (n / 2)) ≡ true) → (b : Bool) → bit n 0 ≡ b
-        → under (digit (bit n 0)) (trailingZeros w (n / 2)) < suc w → bit n (under (digit (bit n 0)) (trailingZeros w (n / 2))) ≡ true
-    go ih true e g = ap (λ (b : Bool). bit n (under (digit b) (trailingZeros w (n / 2)))) e ∙ e
-    go ih false e g =
-        ap (λ (b : Bool). bit n (under (digit b) (trailingZeros w (n / 2)))) e ∙ bit-suc n (trailingZeros w (n / 2))
-        ∙ ih (le-of-suc-le-suc (subst (λ (b : Bool). under (digit b) (trailingZeros w (n / 2)) < suc w) e g))
-
--- a number of w bits that is not 0 has its lowest set bit within them
-pub low-lt : (w n : ℕ) → n < 2 ^ w → (n ≡ 0 → ⊥) → trailingZeros w n < w
-low-lt w n h g = lt-of-not-le (λ k. g (bit-ext w n 0 h (pow-pos w) (λ j l. low-below w n j (lt-of-lt-of-le l k) ∙ sym (bit-none j))))
 
 -- ---- how many bits are set
 pub count-cong : (w : ℕ) (f g : ℕ → Bool) → ((j : ℕ) → j < w → f j ≡ g j) → countOf w f ≡ countOf w g

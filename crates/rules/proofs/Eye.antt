@@ -18,7 +18,7 @@ use Rattle.rules.specs.declared.RowKind.the-variants.{Three}
 use Rattle.rules.proofs.Logic.{and-left, and-right, and-intro, implies, implied, both-ways, any-elim, any-intro, all2}
 use Rattle.rules.proofs.Logic.{true-T}
 use Rattle.rules.proofs.Tables.{at5}
-use Rattle.rules.proofs.Windows.{Scored, scored, five, five-at, free-at, pair-elim}
+use Rattle.rules.proofs.Windows.{Window, scored, five, five-at, free-at, pair-elim}
 
 -- ---- three own stones on a window whose last cell has none leave one gap before it
 
@@ -46,7 +46,7 @@ some-gap a b c d e t =
 -- ---- the eye of a Three at j, on one line
 
 module _ (black : Bool) (size : ℕ) (own other : Stones) (j : ℕ) (t : T (rowAt black size own other Three j)) where
-  window : Scored black size own other 3 j
+  window : Window size own other 3 j
   unfolding rowAt openAt
   window =
       scored black size own other 3 j

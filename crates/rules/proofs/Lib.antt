@@ -1,11 +1,13 @@
 -- The laws of the rules, for other crates to cite.
 pub mod Logic
+pub mod Refusals
 pub mod Tables
 pub mod Bits
 pub mod Lists
 pub mod Address
 pub mod Turns
 pub mod Windows
+pub mod Around
 pub mod Mirror
 pub mod More
 pub mod Apart

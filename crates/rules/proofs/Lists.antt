@@ -1,17 +1,18 @@
 -- The laws of lists made number by number: `tab`, `gather`, and lists of (kind, code) pairs in code order. Assumes nothing.
 use mathlib.Core.Path.{_≡_, refl, sym, ap, ap₂, _∙_}
 use mathlib.Core.Logic.{_⊎_, inl, inr, ⊎-elim}
-use mathlib.Core.Bool.{cond}
+use mathlib.Core.Bool.{Bool, true, false, cond}
 use mathlib.Core.List.{List, [], _∷_, _++_, append-assoc}
-use Prim.Native.Nat.{ℕ, zero, suc, _+_, _≤_, _<_}
+use Prim.Native.Nat.{ℕ, zero, suc, _+_, _*_, _≤_, _<_}
 use native.Mathlib.Omega.{arith}
-use native.Mathlib.Nat.{not-suc-le-zero, le-of-suc-le-suc}
+use native.Mathlib.Nat.{not-suc-le-zero, le-of-suc-le-suc, add-mul, one-mul, zero-mul}
 use native.Mathlib.Decide.{ℕ-discrete}
 use lib.Dec.{eqb}
-use lib.ListN.{length, getD}
+use lib.ListN.{length, getD, length-append}
 use borrow.Author.Tests.{lt-ltb, le-ltb, eq-eqb, ne-eqb}
 use Rattle.rules.specs.Numbers.{verdictNo}
-use Rattle.rules.specs.Tools.{tab, gather}
+use Rattle.rules.specs.Tools.{tab, gather, only}
+use Rattle.rules.specs.Bit.{digit, countOf}
 use Rattle.rules.specs.Forbidden.{entry}
 use Rattle.rules.specs.Views.{insert}
 use Rattle.rules.specs.declared.Verdict.{Verdict}
@@ -46,6 +47,21 @@ gather-front zero f = front (f 0)
     front [] = refl
     front (x ∷ l) = ap (λ (m : List ℕ). x ∷ m) (front l)
 gather-front (suc n) f = ap (λ (l : List ℕ). l ++ f (suc n)) (gather-front n f) ∙ append-assoc (f 0) (gather n (λ i. f (suc i))) (f (suc n))
+
+-- how long a list is that has an item of k for each number that passes
+pub gather-count : (k n : ℕ) (f : ℕ → Bool) (item : ℕ → List ℕ) → ((i : ℕ) → length (item i) ≡ k)
+    → length (gather n (λ i. only (f i) (item i))) ≡ countOf n f * k
+unfolding gather countOf
+gather-count k zero f item h = omega arith
+gather-count k (suc n) f item h =
+    ap length (gather-front n (λ i. only (f i) (item i)))
+    ∙ length-append (only (f 0) (item 0)) (gather n (λ i. only (f (suc i)) (item (suc i))))
+    ∙ ap₂ (λ (a b : ℕ). a + b) (one (f 0)) (gather-count k n (λ i. f (suc i)) (λ i. item (suc i)) (λ i. h (suc i)))
+    ∙ sym (add-mul (digit (f 0)) (countOf n (λ i. f (suc i))) k)
+  where
+    one : (b : Bool) → length (only b (item 0)) ≡ digit b * k
+    one true = h 0 ∙ sym (one-mul k)
+    one false = sym (zero-mul k)
 
 -- ---- pairs in code order: the kinds of the codes from a on, n codes; kind 0 is not listed
 

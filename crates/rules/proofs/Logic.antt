@@ -3,8 +3,8 @@ use mathlib.Core.Path.{_≡_, refl, sym, subst}
 use mathlib.Core.Logic.{_⊎_, inl, inr}
 use mathlib.Core.Bool.{Bool, true, false, not, _&&_, _||_}
 use Prim.Native.Nat.{ℕ, zero, suc, _≤_, _<_}
-use native.Mathlib.Nat.{not-suc-le-zero, le-of-suc-le-suc, le-refl, eq-or-lt-of-le, le-step}
-use lib.Dec.{T, leb, leb→le, le→leb}
+use native.Mathlib.Nat.{not-suc-le-zero, le-of-suc-le-suc, le-refl, eq-or-lt-of-le, le-step, lt-of-not-le, lt-of-lt-of-le, lt-irrefl}
+use lib.Dec.{T, leb, ltb, leb→le, le→leb, ltb→lt, lt→ltb}
 use Rattle.rules.specs.Tools.{anyBelow, allBelow}
 
 -- ---- a passed test and the equation with true, which is what a branch of code knows
@@ -92,6 +92,11 @@ along e t = subst T e t
 pub same-leb : (a b c d : ℕ) → (a ≤ b → c ≤ d) → (c ≤ d → a ≤ b) → leb a b ≡ leb c d
 same-leb a b c d f g = both-ways (leb a b) (leb c d) (λ t. le→leb c d (f (leb→le a b t))) (λ t. le→leb a b (g (leb→le c d t)))
 
+pub not-leb : (i j : ℕ) → not (leb i j) ≡ ltb j i
+not-leb i j =
+    both-ways (not (leb i j)) (ltb j i) (λ t. lt→ltb j i (lt-of-not-le (λ h. not-elim (leb i j) t (le→leb i j h))))
+    (λ t. not-intro (leb i j) (λ u. lt-irrefl j (lt-of-lt-of-le (ltb→lt j i t) (leb→le i j u))))
+
 -- ---- tests over a range
 
 pub any-elim : (n : ℕ) (f : ℕ → Bool) → T (anyBelow n f) → (j : ℕ) × (j < n) × T (f j)
@@ -133,3 +138,14 @@ all2 m n f t a b ha hb = all-elim n (f a) (all-elim m (λ a. allBelow n (f a)) t
 pub all3 : (l m n : ℕ) (f : ℕ → ℕ → ℕ → Bool) → T (allBelow l (λ a. allBelow m (λ b. allBelow n (f a b))))
     → (a b c : ℕ) → a < l → b < m → c < n → T (f a b c)
 all3 l m n f t a b c ha hb hc = all2 m n (f a) (all-elim l (λ a. allBelow m (λ b. allBelow n (f a b))) t a ha) b c hb hc
+
+pub not-any : (n : ℕ) (f : ℕ → Bool) → not (anyBelow n f) ≡ allBelow n (λ i. not (f i))
+not-any n f =
+    both-ways (not (anyBelow n f)) (allBelow n (λ i. not (f i)))
+    (λ t. all-intro n (λ i. not (f i)) (λ i h. not-intro (f i) (λ u. not-elim (anyBelow n f) t (any-intro n f i h u))))
+    (λ t. not-intro (anyBelow n f) (λ u. let (i, h, v) = any-elim n f u in not-elim (f i) (all-elim n (λ i. not (f i)) t i h) v))
+
+pub all-cong : (n : ℕ) (f g : ℕ → Bool) → ((i : ℕ) → i < n → f i ≡ g i) → allBelow n f ≡ allBelow n g
+all-cong n f g e =
+    both-ways (allBelow n f) (allBelow n g) (λ t. all-intro n g (λ i l. along (e i l) (all-elim n f t i l)))
+    (λ t. all-intro n f (λ i l. along (sym (e i l)) (all-elim n g t i l)))

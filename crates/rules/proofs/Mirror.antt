@@ -123,7 +123,7 @@ module _ (black : Bool) (n : ℕ) (o w o′ w′ : Stones) (mo : Mirror n o o′
 
   over-back : (k j s : ℕ) → j + s + 4 ≡ n → T (overAt n o w k j) → T (overAt n o′ w′ k s)
   unfolding overAt
-  over-back k = pair-back (holds n o w k) (holds n o′ w′ k) (held n o w k) (holds-back k)
+  over-back k = pair-back (holds n o w k) (holds n o′ w′ k) (λ j t. held n o w k j t .fits) (holds-back k)
 
   open-back : (k j s : ℕ) → j + s + 4 ≡ n → T (openAt black n o w k j) → T (openAt black n o′ w′ k s)
   unfolding openAt noStone

@@ -23,12 +23,6 @@ every3 f = every1 (λ a. every2 (λ b c. f a b c))
 pub at3 : (f : Bool → Bool → Bool → Bool) → T (every3 f) → (a b c : Bool) → T (f a b c)
 at3 f t a b c = at2 (λ b c. f a b c) (at1 (λ a. every2 (λ b c. f a b c)) t a) b c
 
-abbrev pub every4 : (Bool → Bool → Bool → Bool → Bool) → Bool
-every4 f = every2 (λ a b. every2 (λ c d. f a b c d))
-
-pub at4 : (f : Bool → Bool → Bool → Bool → Bool) → T (every4 f) → (a b c d : Bool) → T (f a b c d)
-at4 f t a b c d = at2 (λ c d. f a b c d) (at2 (λ a b. every2 (λ c d. f a b c d)) t a b) c d
-
 abbrev pub every5 : (Bool → Bool → Bool → Bool → Bool → Bool) → Bool
 every5 f = every3 (λ a b c. every2 (λ d e. f a b c d e))
 

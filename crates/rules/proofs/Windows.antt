@@ -1,16 +1,18 @@
 -- Windows and rows of one line: what a passed test says. Assumes nothing.
 use mathlib.Core.Path.{_≡_, refl, sym, subst, ap}
-use mathlib.Core.Bool.{Bool, true, false, not, _&&_, _||_, and-false}
+use mathlib.Core.Bool.{Bool, true, false, not, _&&_, _||_, cond, and-false}
 use Prim.Native.Nat.{ℕ, zero, suc, _+_, _-_, _≤_, _<_}
 use native.Mathlib.Nat.{add-zero}
 use native.Mathlib.Omega.{arith}
-use lib.Dec.{T, leb, eqb, eqb→eq, leb→le, le→leb}
-use borrow.Author.Tests.{ne-eqb}
+use lib.Dec.{T, leb, eqb, lit<, eqb→eq, leb→le, le→leb}
+use lib.IntN.{pos, negsuc}
+use borrow.Author.Tests.{eq-eqb, ne-eqb}
 use Rattle.rules.specs.Tools.{allBelow}
-use Rattle.rules.specs.Line.{Stones, inside, free, count, beside, dead, scores, holds, pairAt, noStone, openAt, overAt, rowAt}
+use Rattle.rules.specs.Line.{Stones, inside, free, count, beside, dead, score, scores, holds, pairAt, noStone, openAt, overAt}
+use Rattle.rules.specs.Line.{rowAt, rowStones}
 use Rattle.rules.specs.declared.RowKind.{RowKind}
 use Rattle.rules.specs.declared.RowKind.the-variants.{Two, Three, Straight, Sword, Four, Five, Overlining, Overlined}
-use Rattle.rules.proofs.Logic.{and-left, and-right, and-intro, implies, implied, all-elim}
+use Rattle.rules.proofs.Logic.{true-T, not-false, and-left, and-right, and-intro, implies, implied, all-elim}
 use Rattle.rules.proofs.Tables.{at5}
 use Rattle.rules.proofs.Bits.{digit-lt}
 
@@ -30,14 +32,35 @@ unfolding holds
 holds-none size own other n j h = rw (ne-eqb (count own j) n (λ e. omega (arith, count-le own j)))
     (and-false (inside size j && free other j))
 
--- the window at j has the score k
-pub record Scored (black : Bool) (size : ℕ) (own other : Stones) (k j : ℕ) : Type 0 where
+-- `scores` says what the score is
+pub scores-score : (black : Bool) (size : ℕ) (own other : Stones) (n j : ℕ) → T (scores black size own other n j)
+    → score black own other j ≡ pos n
+unfolding scores score
+scores-score black size own other n j t =
+    let l = and-left (inside size j && not (dead black own other j)) (eqb (count own j) n) t in
+    let alive : dead black own other j ≡ false = not-false (and-right (inside size j) (not (dead black own other j)) l) in
+    rw alive
+    (ap pos (eqb→eq (count own j) n (and-right (inside size j && not (dead black own other j)) (eqb (count own j) n) t)))
+
+pub score-scores : (black : Bool) (size : ℕ) (own other : Stones) (n j : ℕ) → T (inside size j) → score black own other j ≡ pos n
+    → T (scores black size own other n j)
+unfolding scores score
+score-scores black size own other n j h e = go (dead black own other j) e
+  where
+    go : (d : Bool) → cond d (negsuc 0) (pos (count own j)) ≡ pos n → T (inside size j && not d && eqb (count own j) n)
+    go true q = let z : _≡_ {A = ℕ} 0 1 = cc in absurd (omega arith)
+    go false q =
+        and-intro (inside size j && true) (eqb (count own j) n) (and-intro (inside size j) true h tt)
+        (true-T (eq-eqb (count own j) n (cc)))
+
+-- the window at j is on the line, free, and holds n own stones
+pub record Window (size : ℕ) (own other : Stones) (n j : ℕ) : Type 0 where
   pub fits : j + 5 ≤ size
   pub isFree : T (free other j)
-  pub stones : count own j ≡ k
+  pub stones : count own j ≡ n
 
 pub scored : (black : Bool) (size : ℕ) (own other : Stones) (k j : ℕ) → T (scores black size own other k j)
-    → Scored black size own other k j
+    → Window size own other k j
 unfolding scores inside dead
 scored black size own other k j t =
     let l = and-left (leb (j + 5) size && not (not (free other j) || black && beside own j)) (eqb (count own j) k) t in
@@ -53,10 +76,15 @@ scored black size own other k j t =
     live true d t = tt
     live false d t = t
 
-pub held : (size : ℕ) (own other : Stones) (k j : ℕ) → T (holds size own other k j) → j + 5 ≤ size
+pub held : (size : ℕ) (own other : Stones) (k j : ℕ) → T (holds size own other k j) → Window size own other k j
 unfolding holds inside
 held size own other k j t =
-    leb→le (j + 5) size (and-left (leb (j + 5) size) (free other j) (and-left (leb (j + 5) size && free other j) (eqb (count own j) k) t))
+    let l = and-left (leb (j + 5) size && free other j) (eqb (count own j) k) t in
+    record {
+      fits = leb→le (j + 5) size (and-left (leb (j + 5) size) (free other j) l);
+      isFree = and-right (leb (j + 5) size) (free other j) l;
+      stones = eqb→eq (count own j) k (and-right (leb (j + 5) size && free other j) (eqb (count own j) k) t);
+    }
 
 -- cell k of a window's five
 abbrev pub five : Bool → Bool → Bool → Bool → Bool → ℕ → Bool
@@ -89,6 +117,10 @@ free-at other j k hk t =
     subst (λ (b : Bool). T (not b)) (five-at other j k hk)
     (no-other (other j) (other (j + 1)) (other (j + 2)) (other (j + 3)) (other (j + 4)) t k hk)
 
+-- a window that scores has no stone of the other colour on its last cell
+pub scores-last : (black : Bool) (size : ℕ) (own other : Stones) (n j : ℕ) → T (scores black size own other n j) → other (j + 4) ≡ false
+scores-last black size own other n j t = not-false (free-at other j 4 (lit< tt) (scored black size own other n j t .isFree))
+
 -- windows j−1 and j both pass: j is i + 1
 pub record Pair (w : ℕ → Bool) (j : ℕ) : Type 0 where
   pub i : ℕ
@@ -117,26 +149,28 @@ pair-intro w i j e s t =
     and-intro (leb 1 j && w (j - 1)) (w j)
     (and-intro (leb 1 j) (w (j - 1)) (le→leb 1 j (omega arith)) (subst (λ (x : ℕ). T (w x)) (let q : i ≡ j - 1 = omega arith in q) s)) t
 
--- a row's later window lies on the line
-pub row-inside : (black : Bool) (size : ℕ) (own other : Stones) (k : RowKind) (j : ℕ) → T (rowAt black size own other k j) → j + 5 ≤ size
+-- a row's later window lies on the line, is free, and holds the kind's stones
+pub row-whole : (black : Bool) (size : ℕ) (own other : Stones) (k : RowKind) (j : ℕ) → T (rowAt black size own other k j)
+    → Window size own other (rowStones k) j
 unfolding rowAt openAt overAt
-row-inside black size own other k j t = at k t
+row-whole black size own other k j t = at k t
   where
-    wide : (n : ℕ) → T (pairAt (scores black size own other n) j && noStone own other (j + 4)) → j + 5 ≤ size
-    wide n u =
-        scored black size own other n j
-        (pair-elim (scores black size own other n) j (and-left (pairAt (scores black size own other n) j)
-        (noStone own other (j + 4)) u) .second) .fits
+    wide : (n : ℕ) → T (pairAt (scores black size own other n) j && noStone own other (j + 4)) → Window size own other n j
+    wide n u = scored black size own other n j (pair-elim (scores black size own other n) j
+        (and-left (pairAt (scores black size own other n) j) (noStone own other (j + 4)) u) .second)
 
-    over : (n : ℕ) → T (pairAt (holds size own other n) j) → j + 5 ≤ size
+    over : (n : ℕ) → T (pairAt (holds size own other n) j) → Window size own other n j
     over n u = held size own other n j (pair-elim (holds size own other n) j u .second)
 
-    at : (k : RowKind) → T (rowAt black size own other k j) → j + 5 ≤ size
+    at : (k : RowKind) → T (rowAt black size own other k j) → Window size own other (rowStones k) j
     at Two u = wide 2 u
     at Three u = wide 3 u
     at Straight u = wide 4 u
-    at Sword u = scored black size own other 3 j u .fits
-    at Four u = scored black size own other 4 j u .fits
-    at Five u = scored black size own other 5 j u .fits
+    at Sword u = scored black size own other 3 j u
+    at Four u = scored black size own other 4 j u
+    at Five u = scored black size own other 5 j u
     at Overlining u = over 4 u
     at Overlined u = over 5 u
+
+pub row-inside : (black : Bool) (size : ℕ) (own other : Stones) (k : RowKind) (j : ℕ) → T (rowAt black size own other k j) → j + 5 ≤ size
+row-inside black size own other k j t = row-whole black size own other k j t .fits

@@ -3,7 +3,8 @@
 use Prim.Native.Nat.{ℕ, _+_, _-_, _%_}
 use mathlib.Core.Bool.{Bool, true, false, not, _&&_, _||_, cond}
 use lib.Dec.{eqb, leb, ltb}
-use Rattle.rules.specs.Tools.{anyBelow}
+use lib.IntN.{ℤ, pos, negsuc}
+use Rattle.rules.specs.Tools.{anyBelow, allBelow}
 use Rattle.rules.specs.Bit.{digit, maskOf, countOf}
 use Rattle.rules.specs.declared.RowKind.{RowKind}
 use Rattle.rules.specs.declared.RowKind.the-variants.{Two, Three, Straight, Sword, Four, Five, Overlining, Overlined}
@@ -34,7 +35,11 @@ beside own j = leb 1 j && own (j - 1) || own (j + 5)
 unfoldable pub dead : Bool → Stones → Stones → ℕ → Bool
 dead black own other j = not (free other j) || black && beside own j
 
--- "Its score is its count of own stones, 0 to 5, and −1 if dead": the window at j is on the line and its score is n, 0 or more
+-- "Its score is its count of own stones, 0 to 5, and −1 if dead."
+unfoldable pub score : Bool → Stones → Stones → ℕ → ℤ
+score black own other j = cond (dead black own other j) (negsuc 0) (pos (count own j))
+
+-- the window at j is on the line and its score is n, 0 or more (proofs/Windows.antt, scores-score)
 unfoldable pub scores : Bool → ℕ → Stones → Stones → ℕ → ℕ → Bool
 scores black size own other n j = inside size j && not (dead black own other j) && eqb (count own j) n
 
@@ -65,18 +70,23 @@ openAt black size own other n j = pairAt (scores black size own other n) j && no
 unfoldable pub overAt : ℕ → Stones → Stones → ℕ → ℕ → Bool
 overAt size own other n j = pairAt (holds size own other n) j
 
--- A row of the kind stands at j. "Sword, Four, Five at j: score 3, 4, 5. Two, Three, Straight at j: windows j−1 and j both score 2, 3, 4
--- and cell j+4 is empty. Overlining, Overlined at j: windows j−1 and j are both free and both hold 4, or both 5, counted without the dead
--- rule."
+-- "Sword, Four, Five at j: score 3, 4, 5. Two, Three, Straight at j: windows j−1 and j both score 2, 3, 4 and cell j+4 is empty.
+-- Overlining, Overlined at j: windows j−1 and j are both free and both hold 4, or both 5, counted without the dead rule."
+-- A row of the kind, by the three tests of these sentences, each for a number of stones.
+abbrev pub rowBy : (ℕ → Bool) → (ℕ → Bool) → (ℕ → Bool) → RowKind → Bool
+rowBy opened scored over Two = opened 2
+rowBy opened scored over Three = opened 3
+rowBy opened scored over Straight = opened 4
+rowBy opened scored over Sword = scored 3
+rowBy opened scored over Four = scored 4
+rowBy opened scored over Five = scored 5
+rowBy opened scored over Overlining = over 4
+rowBy opened scored over Overlined = over 5
+
+-- a row of the kind stands at j
 unfoldable pub rowAt : Bool → ℕ → Stones → Stones → RowKind → ℕ → Bool
-rowAt black size own other Two j = openAt black size own other 2 j
-rowAt black size own other Three j = openAt black size own other 3 j
-rowAt black size own other Straight j = openAt black size own other 4 j
-rowAt black size own other Sword j = scores black size own other 3 j
-rowAt black size own other Four j = scores black size own other 4 j
-rowAt black size own other Five j = scores black size own other 5 j
-rowAt black size own other Overlining j = overAt size own other 4 j
-rowAt black size own other Overlined j = overAt size own other 5 j
+rowAt black size own other kind j =
+    rowBy (λ n. openAt black size own other n j) (λ n. scores black size own other n j) (λ n. overAt size own other n j) kind
 
 -- the kinds on two windows: all but Sword, Four and Five
 abbrev pub spansTwo : RowKind → Bool
@@ -88,6 +98,17 @@ spansTwo Four = false
 spansTwo Five = false
 spansTwo Overlining = true
 spansTwo Overlined = true
+
+-- how many own stones each window of a row of the kind holds (proofs/Windows.antt, row-whole)
+abbrev pub rowStones : RowKind → ℕ
+rowStones Two = 2
+rowStones Three = 3
+rowStones Straight = 4
+rowStones Sword = 3
+rowStones Four = 4
+rowStones Five = 5
+rowStones Overlining = 4
+rowStones Overlined = 5
 
 -- how many cells from its start count as the row: its window, or the four cells that its two windows share
 abbrev pub span : RowKind → ℕ
@@ -118,6 +139,10 @@ eyeSpan Five = 5
 eyeSpan Overlining = 5
 eyeSpan Overlined = 5
 
+-- the cells of a window that can be the row's eyes, as a mask
+unfoldable pub eyeCells : RowKind → ℕ
+eyeCells k = maskOf 5 (λ i. ltb i (eyeSpan k))
+
 -- cell i is an eye of the row of the kind that stands at j
 unfoldable pub isEye : ℕ → Stones → Stones → RowKind → ℕ → ℕ → Bool
 isEye size own other k j i = among (eyeSpan k) j i && emptyAt size own other i
@@ -132,6 +157,40 @@ stonesMask own j = maskOf 5 (λ k. own (j + k))
 
 unfoldable pub eyesMask : ℕ → Stones → Stones → RowKind → ℕ → ℕ
 eyesMask size own other k j = maskOf 5 (λ i. isEye size own other k j (j + i))
+
+-- ---- lines and segments alone
+
+-- cell i, of 16, has not both colours, and none where it is past the line's end
+unfoldable pub soundAt : ℕ → Stones → Stones → ℕ → Bool
+soundAt size own other i = not (own i && other i) && (ltb i size || noStone own other i)
+
+-- "A line alone is sound when no bit is outside its size and no cell has both colours."
+unfoldable pub soundLine : ℕ → Stones → Stones → Bool
+soundLine size own other = allBelow 16 (soundAt size own other)
+
+-- A segment is the seven cells around a window: the one before it, its five and the one after it. It is a line of seven cells with its
+-- window at 1.
+abbrev pub segmentSize : ℕ
+segmentSize = 7
+
+abbrev pub segmentAt : ℕ
+segmentAt = 1
+
+-- "A segment is sound when no cell has both colours and bit 7 is clear."
+abbrev pub soundSegment : Stones → Stones → Bool
+soundSegment own other = soundLine segmentSize own other
+
+-- cell k of the segment of the window at j is cell j + k − 1 of the line; before cell 0 there is none
+unfoldable pub around : Stones → ℕ → Stones
+around own j k = leb 1 (j + k) && own (j + k - 1)
+
+-- its stones as a mask
+abbrev pub segmentMask : Stones → ℕ → ℕ
+segmentMask own j = maskOf segmentSize (around own j)
+
+-- the cells of the window at j where a five still wants a stone, none where the window is dead
+unfoldable pub wanted : Bool → Stones → Stones → ℕ → ℕ
+wanted black own other j = maskOf 5 (λ k. not (dead black own other j) && not (own (j + k)))
 
 -- ---- what line.rs asks besides
 

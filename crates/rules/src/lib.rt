@@ -1,7 +1,16 @@
-// The types of the game with the paper's numbers. The rules themselves are in specs/, their laws in proofs/.
+// The types of the game with the paper's numbers, refusals and answers. The rules themselves are in specs/, their laws in proofs/.
+mod answer;
+
+pub use answer::MaskAnswer;
+pub use answer::NumberAnswer;
+pub use answer::ScoreAnswer;
+pub use answer::StoneAnswer;
+pub use answer::TestAnswer;
 ghost use mathlib.Core.Path.{_≡_};
 ghost use Rattle.rules.specs.Numbers.{colourNo, playerOf, isColour, isBlack, isWhite, opponentOf};
 ghost use Rattle.rules.specs.Numbers.{directionNo, directionOf, kindNo, kindOf, verdictNo, isNone};
+ghost use Rattle.rules.specs.Refusals.{unless, first, colourRefusal, kindRefusal};
+ghost use Rattle.rules.specs.Line.{rowStones, spansTwo, eyeCells};
 
 // The two colours of stones. As a number: 1 Black, 2 White.
 pub enum Player {
@@ -148,6 +157,55 @@ impl RowKind {
             _ => RowKind::Overlined,
         }
     }
+
+    // How many own stones each window of the row holds.
+    pub fn stones(self) -> u8
+        ensures { λ r. ⌜ r ≡ rowStones self ⌝ }
+    {
+        match self {
+            RowKind::Two => 2,
+            RowKind::Three => 3,
+            RowKind::Straight => 4,
+            RowKind::Sword => 3,
+            RowKind::Four => 4,
+            RowKind::Five => 5,
+            RowKind::Overlining => 4,
+            RowKind::Overlined => 5,
+        }
+    }
+
+    // Whether the row needs the window before its own as well.
+    pub fn spans_two(self) -> bool
+        ensures { λ r. ⌜ r ≡ spansTwo self ⌝ }
+    {
+        match self {
+            RowKind::Two => true,
+            RowKind::Three => true,
+            RowKind::Straight => true,
+            RowKind::Sword => false,
+            RowKind::Four => false,
+            RowKind::Five => false,
+            RowKind::Overlining => true,
+            RowKind::Overlined => true,
+        }
+    }
+
+    // The cells of the (later) window that can be the row's eyes, as a mask: all five, but only the four shared ones for the open
+    // rows, whose fifth cell is an open end.
+    pub fn eye_cells(self) -> u8
+        ensures { λ r. ⌜ r ≡ eyeCells self ⌝ }
+    {
+        match self {
+            RowKind::Two => 15,
+            RowKind::Three => 15,
+            RowKind::Straight => 15,
+            RowKind::Sword => 31,
+            RowKind::Four => 31,
+            RowKind::Five => 31,
+            RowKind::Overlining => 31,
+            RowKind::Overlined => 31,
+        }
+    }
 }
 
 impl Verdict {
@@ -172,4 +230,32 @@ impl Verdict {
             Verdict::Overline => false,
         }
     }
+}
+
+// Refusal n, unless the test passed. 0 stands for no refusal.
+pub fn unless(passed: bool, n: u8) -> u8
+    ensures { λ r. ⌜ r ≡ unless passed n ⌝ }
+{
+    if passed { 0 } else { n }
+}
+
+// Of two refusals the first that is given.
+pub fn first(a: u8, b: u8) -> u8
+    ensures { λ r. ⌜ r ≡ first a b ⌝ }
+{
+    if a == 0 { b } else { a }
+}
+
+// 12 for a number that is no colour's.
+pub fn colour_refusal(colour: u8) -> u8
+    ensures { λ r. ⌜ r ≡ colourRefusal colour ⌝ }
+{
+    unless(is_colour(colour), 12)
+}
+
+// 12 for a number that is no row kind's.
+pub fn kind_refusal(kind: u8) -> u8
+    ensures { λ r. ⌜ r ≡ kindRefusal kind ⌝ }
+{
+    unless(kind <= 7, 12)
 }

@@ -1,0 +1,2 @@
+-- What the contracts of `lent` cite.
+pub mod Lists

@@ -1,0 +1,28 @@
+-- `line::Line::starts_of` meets its contract: what it calls says it. Assumes nothing.
+use borrow.Author.Needs.{needs}
+use Rattle.line.proofs.line.Line.starts_of.Statement.{statement}
+use Rattle.line.proofs.line.Line.starts_of.Tie as tie
+
+my-requires : tie.Need-my-requires
+my-requires c κs = search needs
+
+op-requires : tie.Need-op-requires
+op-requires c κs = search needs
+
+of-requires : tie.Need-of-requires
+of-requires c κs = search needs
+
+row-starts-requires : tie.Need-row-starts-requires
+row-starts-requires c κs = search needs
+
+returns : tie.Need-returns
+returns c = simp (
+  c .before .before .before .my .ensures,
+  c .before .before .op .ensures,
+  c .before .of .ensures,
+  c .row-starts .ensures,
+)
+
+pub starts-of-spec : {M : Type 1} → statement M
+starts-of-spec =
+    tie.close (tie.spec my-requires op-requires of-requires row-starts-requires returns)

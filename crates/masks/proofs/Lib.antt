@@ -1,0 +1,2 @@
+-- The laws of the masks of a line, for other crates to cite.
+pub mod Windows

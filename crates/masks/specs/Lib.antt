@@ -1,0 +1,2 @@
+-- What the contracts of `masks` cite beside the rules.
+pub mod Masks

@@ -1,0 +1,25 @@
+-- Masks as the code adds and changes them.
+use mathlib.Core.Path.{_≡_}
+use mathlib.Core.Bool.{Bool, cond, _&&_, Bool·beq}
+use Prim.Native.Nat.{ℕ}
+use lib.Dec.{eqb}
+use Rattle.rules.specs.Bit.{bit, maskOf}
+use Rattle.rules.specs.Line.{Stones, count}
+
+-- the binary digit of the window's count that stands for 2 ^ k
+abbrev pub digitAt : Stones → ℕ → ℕ → Bool
+digitAt own k j = bit (count own j) k
+
+-- three masks are the digits 1, 2 and 4 of the counts of all windows
+pub record Tallied (own : Stones) (ones twos fours : ℕ) : Type 0 where
+  pub first : ones ≡ maskOf 16 (digitAt own 0)
+  pub second : twos ≡ maskOf 16 (digitAt own 1)
+  pub third : fours ≡ maskOf 16 (digitAt own 2)
+
+-- at j the three masks have the three low digits of n
+abbrev pub spelled : ℕ → ℕ → ℕ → ℕ → ℕ → Bool
+spelled ones twos fours n j = Bool·beq (bit n 0) (bit ones j) && Bool·beq (bit n 1) (bit twos j) && Bool·beq (bit n 2) (bit fours j)
+
+-- the cells with cell i as `on` says
+abbrev pub placed : Stones → ℕ → Bool → Stones
+placed own i on j = cond (eqb j i) on (own j)

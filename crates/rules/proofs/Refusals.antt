@@ -1,0 +1,33 @@
+-- Refusals: what no refusal says of the tests behind it. Assumes nothing.
+use mathlib.Core.Path.{_≡_, refl, sym, ap, _∙_}
+use mathlib.Core.Bool.{Bool, true, false, cond}
+use Prim.Native.Nat.{ℕ, suc}
+use native.Mathlib.Omega.{arith}
+use lib.Dec.{T, eqb}
+use borrow.Author.Tests.{eqb-true}
+use Rattle.rules.specs.Refusals.{unless, first}
+use Rattle.rules.proofs.Logic.{no-true}
+
+-- none of two is given where neither is
+pub first-none : (a b : ℕ) → first a b ≡ 0 → (a ≡ 0) × (b ≡ 0)
+unfolding first
+first-none a b e = go (eqb a 0) refl e
+  where
+    go : (t : Bool) → eqb a 0 ≡ t → cond t b a ≡ 0 → (a ≡ 0) × (b ≡ 0)
+    go true q z = (eqb-true a 0 q, z)
+    go false q z = absurd (no-true (sym q ∙ ap (λ (n : ℕ). eqb n 0) z))
+
+pub none-first : (a b : ℕ) → a ≡ 0 → b ≡ 0 → first a b ≡ 0
+unfolding first
+none-first a b p q = rw (p, q)
+
+-- a refusal that is not given: its test passed
+pub passed : (b : Bool) (n : ℕ) → unless b (suc n) ≡ 0 → T b
+unfolding unless
+passed true n e = tt
+passed false n e = absurd (omega arith)
+
+pub pass : (b : Bool) (n : ℕ) → T b → unless b n ≡ 0
+unfolding unless
+pass true n t = refl
+pass false n t = absurd t

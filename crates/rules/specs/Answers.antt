@@ -1,0 +1,32 @@
+-- Answers with refusals: the value where no refusal is given (0), else the refusal's own number, section 2's, alone.
+use mathlib.Core.Bool.{Bool, cond}
+use Prim.Native.Nat.{ℕ}
+use lib.Dec.{eqb}
+use lib.IntN.{ℤ}
+use Rattle.rules.specs.declared.Player.the-variants.{Black, White}
+use Rattle.rules.specs.declared.answer.MaskAnswer.{MaskAnswer}
+use Rattle.rules.specs.declared.answer.MaskAnswer.the-variants as mask
+use Rattle.rules.specs.declared.answer.NumberAnswer.{NumberAnswer}
+use Rattle.rules.specs.declared.answer.NumberAnswer.the-variants as number
+use Rattle.rules.specs.declared.answer.TestAnswer.{TestAnswer}
+use Rattle.rules.specs.declared.answer.TestAnswer.the-variants as test
+use Rattle.rules.specs.declared.answer.ScoreAnswer.{ScoreAnswer}
+use Rattle.rules.specs.declared.answer.ScoreAnswer.the-variants as score
+use Rattle.rules.specs.declared.answer.StoneAnswer.{StoneAnswer}
+use Rattle.rules.specs.declared.answer.StoneAnswer.the-variants as stone
+
+unfoldable pub maskAnswer : ℕ → ℕ → MaskAnswer
+maskAnswer refused m = cond (eqb refused 0) (mask.Is m) (mask.Refused refused)
+
+unfoldable pub numberAnswer : ℕ → ℕ → NumberAnswer
+numberAnswer refused n = cond (eqb refused 0) (number.Is n) (number.Refused refused)
+
+unfoldable pub testAnswer : ℕ → Bool → TestAnswer
+testAnswer refused b = cond (eqb refused 0) (test.Is b) (test.Refused refused)
+
+unfoldable pub scoreAnswer : ℕ → ℤ → ScoreAnswer
+scoreAnswer refused z = cond (eqb refused 0) (score.Is z) (score.Refused refused)
+
+unfoldable pub stoneAnswer : ℕ → Bool → Bool → StoneAnswer
+stoneAnswer refused black white =
+    cond (eqb refused 0) (cond black (stone.Is Black) (cond white (stone.Is White) stone.Empty)) (stone.Refused refused)

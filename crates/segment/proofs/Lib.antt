@@ -1,0 +1,3 @@
+-- The laws of segments, for other crates to cite.
+pub mod Segments
+pub mod Rows

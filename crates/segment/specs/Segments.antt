@@ -1,0 +1,29 @@
+-- Segments as values: what section 4 says of a window, asked of a segment's seven cells, whose window is at cell 1.
+use mathlib.Core.Bool.{Bool, cond}
+use Prim.Native.Nat.{ℕ}
+use lib.Dec.{eqb}
+use Rattle.rules.specs.Refusals.{unless, first, colourRefusal}
+use Rattle.rules.specs.Bit.{bit}
+use Rattle.rules.specs.Line.{Stones, dead, soundSegment, segmentAt}
+use Rattle.segment.specs.declared.segment.Segment.{Segment}
+
+-- the stones of a colour, 1 Black, out of both
+abbrev pub mine : ℕ → ℕ → ℕ → ℕ
+mine colour blacks whites = cond (eqb colour 1) blacks whites
+
+abbrev pub own : Segment → ℕ → Stones
+own s colour = bit (mine colour (s .blacks) (s .whites))
+
+abbrev pub other : Segment → ℕ → Stones
+other s colour = bit (mine colour (s .whites) (s .blacks))
+
+abbrev pub isDead : Segment → ℕ → Bool
+isDead s colour = dead (eqb colour 1) (own s colour) (other s colour) segmentAt
+
+-- "9 .. unsound .. segment"
+unfoldable pub segmentRefusal : Segment → ℕ
+segmentRefusal s = unless (soundSegment (bit (s .blacks)) (bit (s .whites))) 9
+
+-- the refusal of a question about a colour
+unfoldable pub refusalFor : Segment → ℕ → ℕ
+refusalFor s colour = first (segmentRefusal s) (colourRefusal colour)
