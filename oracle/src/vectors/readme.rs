@@ -87,6 +87,10 @@ pub fn text(files: &[(&'static str, String)]) -> String {
          that these are still the bytes it would write.\n"
     )
     .expect("a String takes all");
+    out.push_str(
+        "`lines.txt` is a link to the input of the program that replays it,\n\
+         `crates/replay_lines/stdin`: `rt` runs a program on its crate's own files.\n\n",
+    );
     out.push_str("## Counts\n\n| file | bytes | records |\n|---|---|---|\n");
     for (name, text) in files {
         let row = format!("| {name} | {} | {} |", text.len(), counts(text));

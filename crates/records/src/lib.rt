@@ -1,0 +1,65 @@
+// The fields of recorded answers, read from bytes: a byte, a number in hex, the end of a line. Past the end every byte counts as 0.
+ghost use mathlib.Core.Path.{_≡_};
+ghost use Prim.Native.Nat.{_+_, min};
+ghost use Rattle.records.specs.Records.{byteAt, digitOf, hexOf, lineEnd};
+
+pub fn byte_at(s: &[u8], i: usize) -> u8
+    ensures { λ r. ⌜ r ≡ byteAt (now (s .entry)) i ⌝ }
+{
+    if i < s.len() { s[i] } else { 0 }
+}
+
+// The number that lower-case hex digits spell from place `at` on: so many of them, at most four. A byte that is no digit counts as 0.
+pub fn hex(s: &[u8], at: usize, digits: u8) -> u16
+    ensures { λ r. ⌜ r ≡ hexOf (now (s .entry)) at digits ⌝ }
+{
+    let n = at_most_four(digits);
+    let mut v = 0u16;
+    let mut k = 0u8;
+    while k < n {
+        v = v * 16 + digit(byte_after(s, at, k));
+        k += 1;
+    }
+    v
+}
+
+// The place of the first byte 10 at or after `from`, or the length.
+pub fn line_end(s: &[u8], from: usize) -> usize
+    ensures { λ r. ⌜ r ≡ lineEnd (now (s .entry)) from ⌝ }
+{
+    let mut i = from;
+    while i < s.len() {
+        if s[i] == b'\n' {
+            return i;
+        }
+        i += 1;
+    }
+    s.len()
+}
+
+fn at_most_four(n: u8) -> u8
+    ensures { λ r. ⌜ r ≡ min n 4 ⌝ }
+{
+    if n < 4 { n } else { 4 }
+}
+
+// The byte k places after `at`, a place that can be past what a usize holds.
+fn byte_after(s: &[u8], at: usize, k: u8) -> u8
+    ensures { λ r. ⌜ r ≡ byteAt (now (s .entry)) (at + k) ⌝ }
+{
+    if at < s.len() {
+        byte_at(s, at + k as usize)
+    } else {
+        0
+    }
+}
+
+fn digit(b: u8) -> u16
+    ensures { λ r. ⌜ r ≡ digitOf b ⌝ }
+{
+    match b {
+        b'0'..=b'9' => (b - 48) as u16,
+        b'a'..=b'f' => (b - 87) as u16,
+        _ => 0,
+    }
+}
