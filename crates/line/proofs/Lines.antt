@@ -5,9 +5,10 @@ use mathlib.Core.List.{List, [], _∷_}
 use Prim.Native.Nat.{ℕ, _+_, _-_, _*_, _^_, _≤_, _<_}
 use native.Mathlib.Nat.{mul-one}
 use native.Mathlib.Omega.{arith}
-use lib.Dec.{T, eqb, leb, ltb, leb→le}
+use lib.Dec.{T, eqb, leb, ltb, leb→le, le→leb}
 use lib.ListN.{length}
 use borrow.Author.Tests.{lt-leb, le-leb, lt-ltb, leb-true, eqb-true}
+use Rattle.rules.specs.Numbers.{kindOf}
 use Rattle.rules.specs.Refusals.{unless}
 use Rattle.rules.specs.Tools.{allBelow, gather, only}
 use Rattle.rules.specs.Bit.{bit, maskOf, countOf}
@@ -15,9 +16,10 @@ use Rattle.rules.specs.Line.{Stones, inside, noStone, soundAt, soundLine, sound
 use Rattle.rules.proofs.Logic.{and-right, or-right, same-leb, all-elim, all-intro}
 use Rattle.rules.proofs.Refusals.{first-none, none-first, passed, pass}
 use Rattle.rules.proofs.Lists.{gather-cong, gather-count}
-use Rattle.rules.proofs.Bits.{bit-none, bit-mask, mask-self, count-cong}
+use Rattle.rules.proofs.Bits.{bit-none, bit-mask, mask-self, count-cong, count-mono}
 use Rattle.masks.specs.Masks.{placed}
 use Rattle.lent.specs.Lists.{listRefusal, listOut}
+use Rattle.rules.proofs.Windows.{row-inside}
 use Rattle.rules.proofs.Around.{segment, sound-around}
 use Rattle.lent.proofs.Laws.{gather-length, only-length}
 use Rattle.segment.specs.Segments.{mine, segmentRefusal}
@@ -25,7 +27,8 @@ use Rattle.rules.specs.Answers.{numberAnswer}
 use Rattle.line.specs.Lists.{bitItem, bitList, windowItem, windowList}
 use Rattle.rules.specs.declared.answer.NumberAnswer.{NumberAnswer}
 use Rattle.line.specs.declared.line.Line.{Line}
-use Rattle.line.specs.Lines.{blacks, whites, emptyLine, changed, segmentOf, sizeRefusal, lineRefusal, windowsCount, windowsOut}
+use Rattle.line.specs.Lines.{blacks, whites, own, other, rowsOf, emptyLine, changed, segmentOf, sizeRefusal, lineRefusal}
+use Rattle.line.specs.Lines.{windowsCount, windowsOut}
 
 -- a colour's stones are the mask of their cells
 pub own-mask : (colour a b : ℕ) → a < 2 ^ 16 → b < 2 ^ 16 → mine colour a b ≡ maskOf 16 (bit (mine colour a b))
@@ -70,6 +73,25 @@ pub windows-count : (blacks whites : Stones) (starts : ℕ → Bool) → length 
 unfolding windowList
 windows-count blacks whites starts =
     gather-count 3 16 starts (λ j. j ∷ segmentMask blacks j ∷ segmentMask whites j ∷ []) (λ j. refl)
+
+-- a line has at most eleven windows, so that 33 bytes are enough for all of them and for all rows
+windows-most : (size : ℕ) → size < 16 → countOf 16 (inside size) ≤ 11
+unfolding allBelow countOf inside
+windows-most size h = leb→le (countOf 16 (inside size)) 11 (all-elim 16 (λ n. leb (countOf 16 (inside n)) 11) tt size h)
+
+pub windows-fit : (l : Line) (starts : ℕ → Bool) → l .size < 16 → ((j : ℕ) → T (starts j) → T (inside (l .size) j))
+    → length (windowList (blacks l) (whites l) starts) ≤ 33
+windows-fit l starts h on =
+    let a = windows-count (blacks l) (whites l) starts in
+    let b = count-mono 16 starts (inside (l .size)) on in
+    let c = windows-most (l .size) h in
+    omega arith
+
+pub rows-fit : (l : Line) (colour kind : ℕ) → l .size < 16 → length (windowList (blacks l) (whites l) (rowsOf l colour kind)) ≤ 33
+unfolding inside
+rows-fit l colour kind h =
+    windows-fit l (rowsOf l colour kind) h
+    (λ j t. le→leb (j + 5) (l .size) (row-inside (eqb colour 1) (l .size) (own l colour) (other l colour) (kindOf kind) j t))
 
 -- what is asked of a mask's starts is what is asked of the test that the mask is of
 windows-of : (blacks whites : Stones) (f : ℕ → Bool) → windowList blacks whites (bit (maskOf 16 f)) ≡ windowList blacks whites f

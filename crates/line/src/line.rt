@@ -109,7 +109,7 @@ impl Line {
     }
 
     // Every window's start with its segment, three bytes each: start, black mask, white mask. The number given is that of the windows, at
-    // most 11, so 33 bytes are always enough, here and for the rows.
+    // most 11: 33 bytes are always enough, here and for rows (proofs/Lines.antt, windows-fit, rows-fit).
     pub fn segments(self, out: &mut [u8]) -> NumberAnswer
         ensures { λ r. ⌜ (r ≡ windowsCount self (lineRefusal self) (inside (self .size)) (now (out .entry)))
             × (now (out .exit) ≡ windowsOut self (lineRefusal self) (inside (self .size)) (now (out .entry))) ⌝ }

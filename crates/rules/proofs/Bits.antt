@@ -303,6 +303,17 @@ count-cong (suc w) f g h =
     ap₂ (λ (b : Bool) (n : ℕ). digit b + n) (h 0 (omega arith))
     (count-cong w (λ j. f (suc j)) (λ j. g (suc j)) (λ j k. h (suc j) (omega arith)))
 
+pub count-mono : (w : ℕ) (f g : ℕ → Bool) → ((j : ℕ) → T (f j) → T (g j)) → countOf w f ≤ countOf w g
+unfolding countOf
+count-mono zero f g h = omega arith
+count-mono (suc w) f g h =
+    omega (arith, digit-mono (f 0) (g 0) (h 0), count-mono w (λ j. f (suc j)) (λ j. g (suc j)) (λ j. h (suc j)))
+  where
+    digit-mono : (a b : Bool) → (T a → T b) → digit a ≤ digit b
+    digit-mono true true k = omega arith
+    digit-mono true false k = absurd (k tt)
+    digit-mono false b k = omega arith
+
 pub count-ones : (w n : ℕ) → n < 2 ^ w → ones n ≡ countOf w (bit n)
 unfolding countOf
 count-ones zero n h = ap ones (lt-one h) ∙ ones-ones 0

@@ -7,10 +7,11 @@ use Rattle.rules.specs.Bit.{bit}
 use Rattle.rules.specs.Line.{Stones, dead, soundSegment, segmentAt}
 use Rattle.segment.specs.declared.segment.Segment.{Segment}
 
--- the stones of a colour, 1 Black, out of both
+-- the stones of a colour out of both: Black's for 1, else White's
 abbrev pub mine : ℕ → ℕ → ℕ → ℕ
 mine colour blacks whites = cond (eqb colour 1) blacks whites
 
+-- which of the seven cells hold a stone of the colour, and of the other
 abbrev pub own : Segment → ℕ → Stones
 own s colour = bit (mine colour (s .blacks) (s .whites))
 

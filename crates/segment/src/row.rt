@@ -136,7 +136,7 @@ fn holds_before(colour: u8, n: u8, prev: Before) -> bool
     }
 }
 
-// Both score n, and the last cell is empty: the stones are all in the four cells the two share.
+// Both score n, and the last cell, bit 4 of the stones, is empty: the stones are all in the four cells the two share.
 fn is_open(colour: u8, n: u8, prev: Before, cur: Segment) -> bool
     ensures { λ r. ⌜ r ≡ openOf colour n prev cur ⌝ }
 {

@@ -115,18 +115,21 @@ impl Segment {
     }
 }
 
+// The rest works on the two masks of a segment, the colour's stones and the other's: no stone of the other on the five cells.
 pub(crate) fn is_clear(op: u8) -> bool
     ensures { λ r. ⌜ r ≡ free (bit op) segmentAt ⌝ }
 {
     op & CELLS == 0
 }
 
+// A stone of the colour just before or just after the five cells.
 fn is_beside(my: u8) -> bool
     ensures { λ r. ⌜ r ≡ beside (bit my) segmentAt ⌝ }
 {
     my & MARGINS != 0
 }
 
+// Not free, and for Black also with a black stone beside: no five can be made here.
 pub(crate) fn is_dead(my: u8, op: u8, black: bool) -> bool
     ensures { λ r. ⌜ r ≡ dead black (bit my) (bit op) segmentAt ⌝ }
 {

@@ -18,7 +18,8 @@ starts-requires : tie.Need-starts-requires
 starts-requires c κs = search needs
 
 returns : tie.Need-returns
-returns c = let t = c .before .before .before .tally .ensures in
+returns c =
+    let t = c .before .before .before .tally .ensures in
     simp (c .before .before .select .ensures, c .before .free-mask .ensures, c .starts .ensures, t .first, t .second, t .third, masks)
     (mask-cong 16 _ _ (λ j k. count-bit _ _ _ _ j k))
 

@@ -39,7 +39,8 @@ loop-again c = let a = c .before .before .before .args in (
 
 returns : tie.Need-returns Inv-loop μ-loop
 unfolding spreadAt
-returns c = let e : c .before .loop .k ≡ 8 = omega arith in
+returns c =
+    let e : c .before .loop .k ≡ 8 = omega arith in
     c .before .loop .inv .1 ∙ ap
     (λ (k : ℕ). maskOf 16
     (λ i. anyBelow k (spreads (bit (c .before .before .args .starts)) (bit (c .before .before .args .cells)) i))) e

@@ -41,7 +41,8 @@ loop-less : tie.Need-loop-less Inv-loop μ-loop
 loop-less c = search needs
 
 loop-again : tie.Need-loop-again Inv-loop μ-loop
-loop-again c = let s = c .before .before .before .before .before .before in
+loop-again c =
+    let s = c .before .before .before .before .before .before in
     let f = bitItem (bit (s .before .args .m)) in
     let j = s .loop .j in
     let fit = bits-short (bit (s .before .args .m)) j in (
@@ -52,7 +53,8 @@ loop-again c = let s = c .before .before .before .before .before .before in
 
 returns : tie.Need-returns Inv-loop μ-loop
 unfolding bitList
-returns c = let s = c .before in
+returns c =
+    let s = c .before in
     let on = bit (s .before .args .m) in
     gather-end 16 (bitItem on) (s .loop .j) 16 _ _ (s .loop .inv .1) (omega arith) (bits-short on 16)
 

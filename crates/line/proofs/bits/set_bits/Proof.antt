@@ -27,7 +27,8 @@ same-length : tie.Need-same-length
 same-length c = search needs
 
 returns : tie.Need-returns
-returns c = let a = c .before .before .before .before .before .before .before .before .before .before .args in
+returns c =
+    let a = c .before .before .before .before .before .before .before .before .before .before .args in
     let e = list-end 16 0 (a .out .now) (bitList (bit (a .m))) _ _ _ _
     (c .before .before .before .before .before .before .before .before .places-of .ensures)
     (c .before .before .before .before .write-out .ensures) in

@@ -48,7 +48,8 @@ loop-less : tie.Need-loop-less Inv-loop μ-loop
 loop-less c = search needs
 
 loop-again : tie.Need-loop-again Inv-loop μ-loop
-loop-again c = let s = c .before .before .before .before .before .before .before .before in
+loop-again c =
+    let s = c .before .before .before .before .before .before .before .before in
     let a = s .before .args in
     let j = s .loop .j in
     let fit = windows-short (bit (a .blacks)) (bit (a .whites)) (bit (a .starts)) j in
@@ -62,7 +63,8 @@ loop-again c = let s = c .before .before .before .before .before .before .before
 
 returns : tie.Need-returns Inv-loop μ-loop
 unfolding windowList
-returns c = let s = c .before in
+returns c =
+    let s = c .before in
     let a = s .before .args in
     gather-end 48 (windowItem (bit (a .blacks)) (bit (a .whites)) (bit (a .starts))) (s .loop .j) 16 _ _ (s .loop .inv .1) (omega arith)
     (windows-short (bit (a .blacks)) (bit (a .whites)) (bit (a .starts)) 16)

@@ -18,13 +18,15 @@ count-of-requires : tie.Need-count-of-requires
 count-of-requires c κs = search needs
 
 returns : tie.Need-returns
-returns c = let s = c .before .before .before in
+returns c =
+    let s = c .before .before .before in
     let a = s .before .before .args in
     simp (c .count-of .ensures, c .before .my .ensures)
     (segment-free (a .colour) (a .n) (a .s) (sym (simp (s .before .op .ensures) at (s .is-clear .ensures)) ∙ c .before .before .if1 .taken))
 
 returns-2 : tie.Need-returns-2
-returns-2 c = let s = c .before in
+returns-2 c =
+    let s = c .before in
     let a = s .before .before .args in
     segment-blocked (a .colour) (a .n) (a .s) (sym (simp (s .before .op .ensures) at (s .is-clear .ensures)) ∙ c .if1 .left)
 

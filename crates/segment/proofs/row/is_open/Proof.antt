@@ -20,7 +20,8 @@ stones-of-requires c κs = search needs
 
 returns : tie.Need-returns
 unfolding openOf
-returns c = let s = c .before .before .before in
+returns c =
+    let s = c .before .before .before in
     let a = s .before .before .before .args in
     let now = sym (s .scores .ensures) ∙ c .before .before .if2 .taken in
     simp (c .stones-of .ensures, c .before .my .ensures) (rw (sym (s .before .before .scores-before .ensures) ∙ s .before .if1 .taken, now)
@@ -30,8 +31,7 @@ returns-2 : tie.Need-returns-2
 unfolding openOf
 returns-2 c = rw (
   sym (c .before .before .before .scores-before .ensures) ∙ c .before .before .if1 .taken,
-  sym
-      (c .before .scores .ensures) ∙ c .if2 .left,
+  sym (c .before .scores .ensures) ∙ c .if2 .left,
 )
 
 returns-3 : tie.Need-returns-3

@@ -15,7 +15,8 @@ is-dead-requires : tie.Need-is-dead-requires
 is-dead-requires c κs = search needs
 
 returns : tie.Need-returns
-returns c = let s = c .before in
+returns c =
+    let s = c .before in
     let a = s .before .before .before .args in
     segment-dead (a .colour) (a .n) (a .s)
     (sym (simp (s .before .before .my .ensures, s .before .op .ensures) at (s .is-dead .ensures)) ∙ c .if1 .taken)
@@ -27,7 +28,8 @@ count-of-requires : tie.Need-count-of-requires
 count-of-requires c κs = search needs
 
 returns-2 : tie.Need-returns-2
-returns-2 c = let s = c .before .before .before in
+returns-2 c =
+    let s = c .before .before .before in
     let a = s .before .before .before .args in
     simp (c .count-of .ensures, c .before .my2 .ensures)
     (segment-alive (a .colour) (a .n) (a .s)

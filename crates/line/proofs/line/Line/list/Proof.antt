@@ -29,7 +29,8 @@ same-length c = search needs
 
 returns : tie.Need-returns
 unfolding windowsCount windowsOut
-returns c = let a = c .before .before .before .before .before .before .before .before .before .before .args in
+returns c =
+    let a = c .before .before .before .before .before .before .before .before .before .before .args in
     let w = windowList (bit (a .self .blacks)) (bit (a .self .whites)) (bit (a .starts)) in
     let e = list-end 48 (a .refused) (a .out .now) w _ _ _ _
     (c .before .before .before .before .before .before .before .before .windows-at .ensures)

@@ -18,7 +18,8 @@ same-length : tie.Need-same-length
 same-length c = search needs
 
 returns : tie.Need-returns
-returns c = let a = c .before .before .before .before .before .before .before .args in
+returns c =
+    let a = c .before .before .before .before .before .before .before .args in
     listed (a .self) _ _ (rowsOf (a .self) (a .colour) (a .kind)) _ _ _ _ (c .before .before .before .before .before .rows-refusal .ensures)
     (c .before .before .before .before .starts-of .ensures) (c .before .before .list .ensures)
 

@@ -18,7 +18,8 @@ same-length : tie.Need-same-length
 same-length c = search needs
 
 returns : tie.Need-returns
-returns c = let a = c .before .before .before .before .before .before .before .args in
+returns c =
+    let a = c .before .before .before .before .before .before .before .args in
     listed (a .self) _ _ (inside (a .self .size)) _ _ _ _ (c .before .before .before .before .before .refusal .ensures)
     (c .before .before .before .before .starts .ensures) (c .before .before .list .ensures)
 
