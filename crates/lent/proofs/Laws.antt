@@ -35,6 +35,12 @@ pub only-length : (b : Bool) (l : List ℕ) → length (only b l) ≤ length l
 only-length true l = omega arith
 only-length false l = omega arith
 
+-- nothing at any number
+pub gather-nothing : (n : ℕ) (f : ℕ → List ℕ) → ((i : ℕ) → f i ≡ []) → gather n f ≡ []
+unfolding gather
+gather-nothing zero f h = refl
+gather-nothing (suc n) f h = rw (gather-nothing n f h, h n)
+
 -- ---- stores, one after the other
 
 sets-append : (old : List ℕ) (at : ℕ) (l m : List ℕ) → sets (sets old at l) (at + length l) m ≡ sets old at (l ++ m)
@@ -69,10 +75,6 @@ wrote-none old at = record { buffer = refl; place = omega arith }
 pub wrote-as : {old : List ℕ} {at : ℕ} {l m buf : List ℕ} {n : ℕ} → Wrote old at l buf n → l ≡ m → Wrote old at m buf n
 wrote-as {old} {at} h e = record { buffer = h .buffer ∙ ap (sets old at) e; place = h .place ∙ ap (λ (x : List ℕ). at + length x) e }
 
--- a fresh buffer, before the first turn of a loop
-pub wrote-start : (size : ℕ) (f : ℕ → List ℕ) → Wrote (zeros size) 0 (gather 0 f) (zeros size) 0
-wrote-start size f = wrote-as (wrote-none (zeros size) 0) (sym (gather-none f))
-
 -- a list more, written behind the first
 pub wrote-all : (old : List ℕ) (at : ℕ) (l m buf buf′ : List ℕ) (n r : ℕ) → Wrote old at l buf n → Wrote buf n m buf′ r
     → Wrote old at (l ++ m) buf′ r
@@ -97,11 +99,43 @@ wrote-keep old at l buf n true item r buf′ h room k =
 wrote-keep old at l buf n false item r buf′ h room k =
     wrote-as (record { buffer = k .1 ∙ h .buffer; place = k .0 ∙ h .place }) (sym (append-nil l))
 
+-- the buffer stays as long as it was
+pub wrote-same : {old : List ℕ} {at : ℕ} {l buf : List ℕ} {n : ℕ} → Wrote old at l buf n → length buf ≡ length old
+wrote-same {old} {at} {l} h = ap length (h .buffer) ∙ length-sets old at l
+
+module _ {old : List ℕ} {at : ℕ} (f : ℕ → List ℕ) where
+  -- before the first turn
+  pub wrote-first : Wrote old at (gather 0 f) old at
+  wrote-first = wrote-as (wrote-none old at) (sym (gather-none f))
+
+  -- a turn over i that keeps at most one item: f gives that item, if on
+  pub wrote-step : (i : ℕ) {buf : List ℕ} {n : ℕ} (on : Bool) (item : List ℕ) {r : ℕ} {buf′ : List ℕ} → Wrote old at (gather i f) buf n
+      → at + length (gather i f) + length item ≤ length old → (r ≡ keptTo buf n on item) × (buf′ ≡ keptIn buf n on item)
+      → only on item ≡ f i → Wrote old at (gather (i + 1) f) buf′ r
+  wrote-step i {buf} {n} on item {r} {buf′} h room k e =
+      wrote-as (wrote-keep old at (gather i f) buf n on item r buf′ h room k)
+      (ap (λ (x : List ℕ). gather i f ++ x) e ∙ gather-more i f)
+
+  -- a turn over i that writes all that f gives there
+  pub wrote-part : (i : ℕ) {buf : List ℕ} {n r : ℕ} {buf′ : List ℕ} → Wrote old at (gather i f) buf n → Wrote buf n (f i) buf′ r
+      → Wrote old at (gather (i + 1) f) buf′ r
+  wrote-part i {buf} {n} {r} {buf′} h k = wrote-as (wrote-all old at (gather i f) (f i) buf buf′ n r h k) (gather-more i f)
+
+  -- after the last turn
+  pub wrote-top : (i top : ℕ) {buf : List ℕ} {n : ℕ} → i ≡ top → Wrote old at (gather i f) buf n → Wrote old at (gather top f) buf n
+  wrote-top i top e h = wrote-as h (ap (λ (k : ℕ). gather k f) e)
+
 -- ---- a fresh buffer that a list is written into
 
 pub length-zeros : (n : ℕ) → length (zeros n) ≡ n
 unfolding zeros
 length-zeros n = length-replicate {A = ℕ} n 0
+
+pub zeros-at : (n i : ℕ) → getD (zeros n) i 0 ≡ 0
+unfolding zeros
+zeros-at zero i = refl
+zeros-at (suc n) zero = refl
+zeros-at (suc n) (suc i) = zeros-at n i
 
 drop-zeros : (k n : ℕ) → drop k (zeros n) ≡ zeros (n - k)
 unfolding zeros
@@ -115,7 +149,11 @@ unfolding padded
 take-padded size l = take-at l (zeros (size - length l)) (length l) refl
 
 pub wrote-length : (size : ℕ) {l buf : List ℕ} {n : ℕ} → Wrote (zeros size) 0 l buf n → size ≡ length buf
-wrote-length size {l} h = sym (ap length (h .buffer) ∙ length-sets (zeros size) 0 l ∙ length-zeros size)
+wrote-length size h = sym (wrote-same h ∙ length-zeros size)
+
+-- before the first turn of a loop
+pub wrote-start : (size : ℕ) (f : ℕ → List ℕ) → Wrote (zeros size) 0 (gather 0 f) (zeros size) 0
+wrote-start size f = wrote-first f
 
 -- a turn of a loop over i that keeps at most one item: f gives that item, if on
 pub gather-step : (size : ℕ) (f : ℕ → List ℕ) (i : ℕ) (buf : List ℕ) (n : ℕ) (on : Bool) (item : List ℕ) (r : ℕ) (buf′ : List ℕ)
@@ -123,8 +161,7 @@ pub gather-step : (size : ℕ) (f : ℕ → List ℕ) (i : ℕ) (buf : List ℕ)
     → (r ≡ keptTo buf n on item) × (buf′ ≡ keptIn buf n on item) → f i ≡ only on item → Wrote (zeros size) 0 (gather (i + 1) f) buf′ r
 gather-step size f i buf n on item r buf′ h room k e =
     let s = length-zeros size in
-    wrote-as (wrote-keep (zeros size) 0 (gather i f) buf n on item r buf′ h (omega arith) k)
-    (ap (λ (x : List ℕ). gather i f ++ x) (sym e) ∙ gather-more i f)
+    wrote-step f i on item h (omega arith) k (sym e)
 
 -- what a loop wrote
 pub wrote-held : (size : ℕ) (l buf : List ℕ) (n : ℕ) → Wrote (zeros size) 0 l buf n → length l ≤ size → Held size l buf n
@@ -151,10 +188,14 @@ take-least zero l = simp unary-clauses
 take-least (suc n) [] = simp unary-clauses
 take-least (suc n) (a ∷ l) = simp unary-clauses (ap (λ (x : List ℕ). a ∷ x) (take-least n l))
 
+-- what is held is read back
+pub held-take : (size : ℕ) {a from : List ℕ} {len : ℕ} → Held size a from len → take len from ≡ a
+held-take size {a} h = ap₂ {C = List ℕ} take (h .count) (h .buffer) ∙ take-padded size a
+
 -- the end of a function that lists: `write_out` was given a buffer that holds a
 pub list-end : (size refused : ℕ) (out a from : List ℕ) (len r : ℕ) (out′ : List ℕ) → Held size a from len
     → (r ≡ listRefusal refused out (take len from)) × (out′ ≡ listOut refused out (take len from))
     → (r ≡ listRefusal refused out a) × (out′ ≡ listOut refused out a)
 list-end size refused out a from len r out′ h k =
-    let held : take len from ≡ a = ap₂ {C = List ℕ} take (h .count) (h .buffer) ∙ take-padded size a in
+    let held = held-take size h in
     (k .0 ∙ ap (listRefusal refused out) held, k .1 ∙ ap (listOut refused out) held)

@@ -18,7 +18,7 @@ use Rattle.rules.specs.Line.{through, emptyAt, eyeSpan, isEye, eyeOfSome, eyeCe
 use Rattle.rules.specs.Line.{segmentMask}
 use Rattle.rules.specs.declared.RowKind.{RowKind}
 use Rattle.rules.specs.declared.RowKind.the-variants.{Two, Three, Straight, Sword, Four, Five, Overlining, Overlined}
-use Rattle.rules.proofs.Logic.{both-ways, same-leb, along, and-left, and-right, and-intro, any-elim, any-intro}
+use Rattle.rules.proofs.Logic.{both-ways, same-leb, along, and-left, and-right, and-intro, any-elim, any-intro, and-flip}
 use Rattle.rules.proofs.Logic.{not-leb, not-any, all-cong}
 use Rattle.rules.proofs.Tables.{every5, table2, table3, table5, table6}
 use Rattle.rules.proofs.Bits.{differ, bit-and, bit-or, bit-xor, bit-shr, bit-not, bit-ones, bit-none, bit-suc, halves, digit-lt, mask-ext}
@@ -292,7 +292,7 @@ through-bit kind i j =
     ap (λ (b : Bool). b && leb j i)
     (let p : 1 ≤ span kind = span-pos kind in
     same-leb (i - (span kind - 1)) j (suc i) (j + span kind) (λ a. omega arith) (λ a. omega arith))
-    ∙ table2 (λ a b. a && b) (λ a b. b && a) tt (ltb i (j + span kind)) (leb j i)
+    ∙ and-flip (ltb i (j + span kind)) (leb j i)
 
 -- ---- empty cells and eyes
 

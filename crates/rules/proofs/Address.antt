@@ -1,9 +1,10 @@
 -- The laws of points, lines, keys and views, each a test that antt computes at every place. Assumes nothing.
 use mathlib.Core.Path.{_≡_, refl}
-use mathlib.Core.Bool.{Bool, Bool·beq, _&&_}
-use Prim.Native.Nat.{ℕ, zero, suc, _≤_, _<_}
+use mathlib.Core.Bool.{Bool, true, false, Bool·beq, _&&_, cond}
+use Prim.Native.Nat.{ℕ, zero, suc, _+_, _-_, _≤_, _<_}
 use native.Mathlib.Omega.{arith}
 use lib.Dec.{T, eqb, ltb, leb, eqb→eq, ltb→lt, leb→le}
+use borrow.Author.Tests.{ltb-true, ltb-false}
 use Rattle.rules.specs.Tools.{allBelow}
 use Rattle.rules.specs.Point.{xOf, yOf, codeOf, lineNo, cellNo, lineCount, lineSize, pointAt, stored, keyOf, keyDir, keyNo, keySize}
 use Rattle.rules.proofs.Logic.{all-elim, all2, implies, implied}
@@ -43,9 +44,24 @@ unfolding allBelow lineNo cellNo lineSize
 cell-here d p hd hp =
     ltb→lt (cellNo d p) (lineSize d (lineNo d p)) (all2 4 225 (λ d p. ltb (cellNo d p) (lineSize d (lineNo d p))) tt d p hd hp)
 
-pub size-le : (d p : ℕ) → d < 4 → p < 225 → lineSize d (lineNo d p) ≤ 15
-unfolding allBelow lineNo lineSize
-size-le d p hd hp = leb→le (lineSize d (lineNo d p)) 15 (all2 4 225 (λ d p. leb (lineSize d (lineNo d p)) 15) tt d p hd hp)
+-- no line is longer than 15 cells
+diagonal-le : (i : ℕ) → cond (ltb i 14) (i + 1) (29 - i) ≤ 15
+diagonal-le i = go (ltb i 14) refl
+  where
+    go : (b : Bool) → ltb i 14 ≡ b → cond b (i + 1) (29 - i) ≤ 15
+    go true e = omega (arith, ltb-true i 14 e)
+    go false e = omega (arith, ltb-false i 14 e)
+
+pub size-le : (d i : ℕ) → lineSize d i ≤ 15
+unfolding lineSize
+size-le zero i = omega arith
+size-le (suc zero) i = omega arith
+size-le (suc (suc zero)) i = diagonal-le i
+size-le (suc (suc (suc d))) i = diagonal-le i
+
+pub keySize-le : (k : ℕ) → keySize k ≤ 15
+unfolding keySize
+keySize-le k = size-le (keyDir k) (keyNo k)
 
 -- ---- an address names a point, whose address it is
 
@@ -128,7 +144,3 @@ module _ (k : ℕ) (hk : k < 72) where
   pub keySize-ge : 5 ≤ keySize k
   unfolding allBelow keyDir keyNo keySize lineSize
   keySize-ge = leb→le 5 (keySize k) (all-elim 72 (λ k. leb 5 (keySize k)) tt k hk)
-
-  pub keySize-le : keySize k ≤ 15
-  unfolding allBelow keyDir keyNo keySize lineSize
-  keySize-le = leb→le (keySize k) 15 (all-elim 72 (λ k. leb (keySize k) 15) tt k hk)

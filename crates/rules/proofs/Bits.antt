@@ -231,6 +231,9 @@ mask-ext w a f ha h = bit-ext w a (maskOf w f) ha (mask-lt w f) (λ j k. h j k �
 pub mask-cong : (w : ℕ) (f g : ℕ → Bool) → ((j : ℕ) → j < w → f j ≡ g j) → maskOf w f ≡ maskOf w g
 mask-cong w f g h = mask-ext w (maskOf w f) g (mask-lt w f) (λ j k. bit-mask w f j k ∙ h j k)
 
+pub mask-none : (w : ℕ) (f : ℕ → Bool) → ((j : ℕ) → j < w → f j ≡ false) → maskOf w f ≡ 0
+mask-none w f h = sym (mask-ext w 0 f (pow-pos w) (λ j l. bit-none j ∙ sym (h j l)))
+
 -- ---- masks of tests, combined: what a caller of functions that give such masks rewrites with
 pub mask-and : (w : ℕ) (f g : ℕ → Bool) → bitAnd (maskOf w f) (maskOf w g) ≡ maskOf w (λ j. f j && g j)
 mask-and w f g =

@@ -299,7 +299,7 @@ module _ (ask : Ask) (blind : Blind ask) (v : ℕ) (A B : List ℕ) (p : ℕ) (h
       let hh = moved-lt (flips v d) (lineSize d i) e h (z .1) he in
       let ep = turn-point v d p hv hd hp e h he (moved-matched (flips v d) (lineSize d i) e h (z .1)) in
       let ea = blind v A B (pointAt d i e) hv t (point-lt d i e hd (line-here d p hd hp) he) in
-      any-intro 16 (λ e. eyeOn Black Three B d′ i′ s e && isNone (ask B (pointAt d′ i′ e))) h (omega (arith, size-le d p hd hp, hh))
+      any-intro 16 (λ e. eyeOn Black Three B d′ i′ s e && isNone (ask B (pointAt d′ i′ e))) h (omega (arith, size-le d (lineNo d p), hh))
       (and-intro (eyeOn Black Three B d′ i′ s h) (isNone (ask B (pointAt d′ i′ h)))
       (eye-turn v A B p d hv t hp hd Black j s e h m (z .1) ue)
       (subst⁻¹ (λ (x : Verdict). T (isNone x)) (ap (ask B) ep ∙ ea)

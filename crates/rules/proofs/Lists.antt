@@ -9,6 +9,7 @@ use native.Mathlib.Nat.{not-suc-le-zero, le-of-suc-le-suc, add-mul, one-mul, zer
 use native.Mathlib.Decide.{ℕ-discrete}
 use lib.Dec.{eqb}
 use lib.ListN.{length, getD, length-append}
+use lib.Seq.{ext-getD}
 use borrow.Author.Tests.{lt-ltb, le-ltb, eq-eqb, ne-eqb}
 use Rattle.rules.specs.Numbers.{verdictNo}
 use Rattle.rules.specs.Tools.{tab, gather, only}
@@ -30,6 +31,16 @@ unfolding tab
 getD-tab zero f i h = absurd (not-suc-le-zero h)
 getD-tab (suc n) f zero h = refl
 getD-tab (suc n) f (suc i) h = getD-tab n (λ i. f (suc i)) i (le-of-suc-le-suc h)
+
+pub tab-cong : (n : ℕ) (f g : ℕ → ℕ) → ((i : ℕ) → i < n → f i ≡ g i) → tab n f ≡ tab n g
+tab-cong n f g h =
+    ext-getD 0 (tab n f) (tab n g) (length-tab n f ∙ sym (length-tab n g))
+    (λ i b. let l = length-tab n f in getD-tab n f i (omega arith) ∙ h i (omega arith) ∙ sym (getD-tab n g i (omega arith)))
+
+-- a list is a table where it has its length and its entries
+pub is-tab : (l : List ℕ) (n : ℕ) (g : ℕ → ℕ) → length l ≡ n → ((i : ℕ) → i < n → getD l i 0 ≡ g i) → l ≡ tab n g
+is-tab l n g e h =
+    ext-getD 0 l (tab n g) (e ∙ sym (length-tab n g)) (λ i b. h i (omega arith) ∙ sym (getD-tab n g i (omega arith)))
 
 -- ---- gather
 

@@ -2,7 +2,8 @@
 use mathlib.Core.Path.{_≡_, refl, sym, subst}
 use mathlib.Core.Logic.{_⊎_, inl, inr}
 use mathlib.Core.Bool.{Bool, true, false, not, _&&_, _||_}
-use Prim.Native.Nat.{ℕ, zero, suc, _≤_, _<_}
+use Prim.Native.Nat.{ℕ, zero, suc, _+_, _≤_, _<_}
+use native.Mathlib.Numerals.{add-one}
 use native.Mathlib.Nat.{not-suc-le-zero, le-of-suc-le-suc, le-refl, eq-or-lt-of-le, le-step, lt-of-not-le, lt-of-lt-of-le, lt-irrefl}
 use lib.Dec.{T, leb, ltb, leb→le, le→leb, ltb→lt, lt→ltb}
 use Rattle.rules.specs.Tools.{anyBelow, allBelow}
@@ -79,6 +80,12 @@ pub implies-intro : (a b : Bool) → (T a → T b) → T (implies a b)
 implies-intro true b f = f tt
 implies-intro false b f = tt
 
+pub and-flip : (a b : Bool) → (a && b) ≡ (b && a)
+and-flip true true = refl
+and-flip true false = refl
+and-flip false true = refl
+and-flip false false = refl
+
 -- two tests are one where each passes with the other
 pub both-ways : (a b : Bool) → (T a → T b) → (T b → T a) → a ≡ b
 both-ways true true f g = refl
@@ -149,3 +156,14 @@ pub all-cong : (n : ℕ) (f g : ℕ → Bool) → ((i : ℕ) → i < n → f i �
 all-cong n f g e =
     both-ways (allBelow n f) (allBelow n g) (λ t. all-intro n g (λ i l. along (e i l) (all-elim n f t i l)))
     (λ t. all-intro n f (λ i l. along (sym (e i l)) (all-elim n g t i l)))
+
+-- as a loop tests a range: one number more; a number that fails
+pub all-step : (n : ℕ) (f : ℕ → Bool) → (f n && allBelow n f) ≡ allBelow (n + 1) f
+unfolding allBelow
+all-step n f = rw add-one
+
+pub all-more : (n : ℕ) (f : ℕ → Bool) → T (allBelow n f) → T (f n) → T (allBelow (n + 1) f)
+all-more n f t u = along (all-step n f) (and-intro (f n) (allBelow n f) u t)
+
+pub all-fails : (n : ℕ) (f : ℕ → Bool) (i : ℕ) → i < n → f i ≡ false → allBelow n f ≡ false
+all-fails n f i h e = not-false (not-intro (allBelow n f) (λ t. subst T e (all-elim n f t i h)))

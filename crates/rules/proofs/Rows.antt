@@ -45,7 +45,7 @@ through-inside r k cells p d j t = rowOn-inside r k cells d (lineNo d p) j (thro
 pub start-lt : (r : Player) (k : RowKind) (cells : List ℕ) (p d j : ℕ) → d < 4 → p < 225 → T (rowsThrough r k cells p d j) → j < 16
 start-lt r k cells p d j hd hp t =
     let a = through-inside r k cells p d j t in
-    let b = size-le d p hd hp in
+    let b = size-le d (lineNo d p) in
     omega arith
 
 -- an eye lies on its line

@@ -90,12 +90,18 @@ unfoldable pub lineRows : Player → RowKind → List ℕ → ℕ → ℕ → (�
 lineRows r k cells d i row = gather (lineSize d i) (λ j. only (row j) (rowBytes r k cells d i j))
 
 -- "Rows come by line key, then start"
+abbrev pub keyRows : Player → RowKind → List ℕ → ℕ → List ℕ
+keyRows r k cells key = lineRows r k cells (keyDir key) (keyNo key) (rowOn r k cells (keyDir key) (keyNo key))
+
 unfoldable pub rowsOf : Player → RowKind → List ℕ → List ℕ
-rowsOf r k cells = gather 72 (λ key. lineRows r k cells (keyDir key) (keyNo key) (rowOn r k cells (keyDir key) (keyNo key)))
+rowsOf r k cells = gather 72 (keyRows r k cells)
 
 -- the same of the rows through p, line by line
+abbrev pub rowsIn : Player → RowKind → List ℕ → ℕ → ℕ → List ℕ
+rowsIn r k cells p d = lineRows r k cells d (lineNo d p) (rowsThrough r k cells p d)
+
 unfoldable pub rowsOnPoint : Player → RowKind → List ℕ → ℕ → List ℕ
-rowsOnPoint r k cells p = gather 4 (λ d. lineRows r k cells d (lineNo d p) (rowsThrough r k cells p d))
+rowsOnPoint r k cells p = gather 4 (rowsIn r k cells p)
 
 -- cell e of the line through p is an eye of one of the player's Fours through p
 unfoldable pub fourEye : Player → List ℕ → ℕ → ℕ → ℕ → Bool
@@ -105,9 +111,11 @@ fourEye r cells p d e =
 
 -- "Four eyes through a point: line by line (vertical, horizontal, ascending, descending), each cell once a line, ascending."
 -- "Through an empty point the point itself may come once for each line."
+abbrev pub eyesIn : Player → List ℕ → ℕ → ℕ → List ℕ
+eyesIn r cells p d = gather (lineSize d (lineNo d p)) (λ e. only (fourEye r cells p d e) (pointAt d (lineNo d p) e ∷ []))
+
 unfoldable pub fourEyes : Player → List ℕ → ℕ → List ℕ
-fourEyes r cells p =
-    gather 4 (λ d. gather (lineSize d (lineNo d p)) (λ e. only (fourEye r cells p d e) (pointAt d (lineNo d p) e ∷ [])))
+fourEyes r cells p = gather 4 (eyesIn r cells p)
 
 -- cell c + s − n is on a line of this size
 unfoldable pub onLine : ℕ → ℕ → ℕ → ℕ → Bool
@@ -115,9 +123,14 @@ onLine size c n s = leb n (c + s) && ltb (c + s - n) size
 
 -- "`neighbors` takes distance d, 0 to 14, and names the cells from −d to +d in each direction in that order, short diagonals too, the
 -- point itself each time; the empty-only form drops stones." Here the distance is n and s counts the cells from −n on.
-unfoldable pub neighbours : List ℕ → ℕ → ℕ → Bool → List ℕ
-neighbours cells p n onlyEmpty =
-    gather 4 (λ d. gather (n + n + 1) (λ s.
+abbrev pub nearItem : List ℕ → ℕ → ℕ → Bool → ℕ → ℕ → List ℕ
+nearItem cells p n onlyEmpty d s =
     only (onLine (lineSize d (lineNo d p)) (cellNo d p) n s
     && (not onlyEmpty || isEmpty (getD cells (pointAt d (lineNo d p) (cellNo d p + s - n)) 0)))
-    (pointAt d (lineNo d p) (cellNo d p + s - n) ∷ [])))
+    (pointAt d (lineNo d p) (cellNo d p + s - n) ∷ [])
+
+abbrev pub nearIn : List ℕ → ℕ → ℕ → Bool → ℕ → List ℕ
+nearIn cells p n onlyEmpty d = gather (n + n + 1) (nearItem cells p n onlyEmpty d)
+
+unfoldable pub neighbours : List ℕ → ℕ → ℕ → Bool → List ℕ
+neighbours cells p n onlyEmpty = gather 4 (nearIn cells p n onlyEmpty)

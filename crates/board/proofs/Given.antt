@@ -1,0 +1,176 @@
+-- What is given back where nothing is refused: the board of the right cells, the right line, the right starts. Assumes nothing.
+use mathlib.Core.Path.{_≡_, refl, ap, sym, _∙_}
+use mathlib.Core.Bool.{Bool, true, false, _&&_, cond}
+use mathlib.Core.Logic.{_⊎_, inl, inr}
+use mathlib.Core.List.{List, [], _∷_}
+use Prim.Native.Nat.{ℕ, zero, suc, _+_, _<_, _≤_}
+use native.Mathlib.Nat.{not-suc-le-zero, le-of-suc-le-suc}
+use native.Mathlib.Numerals.{add-one}
+use native.Mathlib.Omega.{arith}
+use lib.Dec.{eqb, leb, ltb, leb→le}
+use lib.ListN.{length, getD, take, drop, List·getD-eq-default}
+use lib.Seq.{take-all, drop-cons}
+use borrow.Author.Tests.{eqb-true, ltb-true, ltb-false}
+use Rattle.rules.specs.Numbers.{colourNo, opponentOf}
+use Rattle.rules.specs.Answers.{stoneAnswer}
+use Rattle.rules.specs.Tools.{allBelow}
+use Rattle.rules.specs.Bit.{maskOf}
+use Rattle.rules.specs.Grid.{Change, play, rowsThrough, put, remove}
+use Rattle.rules.specs.Views.{turn, undo, turnCells}
+use Rattle.rules.specs.declared.Player.{Player}
+use Rattle.rules.specs.declared.Player.the-variants.{Black, White}
+use Rattle.rules.specs.declared.RowKind.{RowKind}
+use Rattle.rules.proofs.Logic.{T-true, decide, and-left, and-right, all-elim}
+use Rattle.rules.proofs.Refusals.{first-none, passed, pass}
+use Rattle.rules.proofs.Lists.{length-tab, getD-tab, tab-cong}
+use Rattle.lent.specs.Lists.{zeros, listRefusal, listOut}
+use Rattle.point.specs.Points.{codeRefusal}
+use Rattle.point.proofs.Refused.{code-in}
+use Rattle.grid.specs.Lines.{cellsOf, linesOf, Sound, isSound, writeOn, playLines, startsIn, startsOn}
+use Rattle.grid.proofs.Lines.{Cells, lines-zeros, cells-lines-zeros, sound-zeros}
+use Rattle.grid.proofs.Lines.{length-cellsOf, play-lines, play-sound, play-cells}
+use Rattle.grid.proofs.Lines.{cells-zeros, cells-set, cells-linesOf, sound-linesOf, play-ok, colour-small}
+use Rattle.grid.proofs.Filled.{test-sound, sound-test}
+use Rattle.grid.proofs.RowStarts.{starts-in}
+use Rattle.board.specs.Boards.{cells, boardOf, movesCells, stonesCells, puts, boardRefusal, cellsRefusal, refusalAt}
+use Rattle.board.specs.Boards.{startsOf}
+use Rattle.board.specs.Answers.{boardAnswer, linesAnswer, startsAnswer}
+use Rattle.board.specs.declared.board.Board.{Board}
+
+-- ---- refusals: what is known where none is given
+
+pub sound-in : (b : Board) → boardRefusal b ≡ 0 → Sound (b .lines)
+unfolding boardRefusal
+sound-in b e = test-sound (b .lines) (passed (isSound (b .lines)) 8 e)
+
+pub at-in : (b : Board) (p : ℕ) → refusalAt b p ≡ 0 → Sound (b .lines) × (p < 225)
+unfolding refusalAt
+at-in b p e = let q = first-none (boardRefusal b) (codeRefusal p) e in (sound-in b (q .0), code-in p (q .1))
+
+pub cells-in : (cells : List ℕ) → cellsRefusal cells ≡ 0 → Cells cells
+unfolding cellsRefusal
+cells-in cells e =
+    let t = passed (eqb (length cells) 225 && allBelow 225 (λ p. leb (getD cells p 0) 2)) 8 e in
+    let small = and-right (eqb (length cells) 225) (allBelow 225 (λ p. leb (getD cells p 0) 2)) t in
+    record {
+      long = eqb-true (length cells) 225 (T-true (and-left (eqb (length cells) 225) (allBelow 225 (λ p. leb (getD cells p 0) 2)) t));
+      small = λ p h. leb→le (getD cells p 0) 2 (all-elim 225 (λ p. leb (getD cells p 0) 2) small p h);
+    }
+
+-- ---- a board of 225 cells of 0, 1 or 2 is sound and has these cells; so every board that is given back is sound
+
+pub board-sound : (cells : List ℕ) → Cells cells → boardRefusal (boardOf cells) ≡ 0
+unfolding boardRefusal boardOf
+board-sound cells ok = pass (isSound (linesOf cells)) 9 (sound-test (linesOf cells) (sound-linesOf cells ok))
+
+pub board-cells : (c : List ℕ) → Cells c → cells (boardOf c) ≡ c
+unfolding boardOf
+board-cells c ok = cells-linesOf c ok
+
+pub moves-ok : (moves : List ℕ) → Cells (movesCells moves)
+unfolding movesCells
+moves-ok moves = play-ok (puts true Black moves) (zeros 225) cells-zeros
+
+pub stones-ok : (blacks whites : List ℕ) → Cells (stonesCells blacks whites)
+unfolding stonesCells
+stones-ok blacks whites =
+    play-ok (puts false White whites) (play (puts false Black blacks) (zeros 225))
+    (play-ok (puts false Black blacks) (zeros 225) cells-zeros)
+
+pub put-ok : (r : Player) (cells : List ℕ) (p : ℕ) → Cells cells → Cells (put r cells p)
+put-ok r cells p ok = cells-set cells p (colourNo r) ok (colour-small r)
+
+pub remove-ok : (cells : List ℕ) (p : ℕ) → Cells cells → Cells (remove cells p)
+remove-ok cells p ok = cells-set cells p 0 ok (omega arith)
+
+pub turn-ok : (v : ℕ) (cells : List ℕ) → Cells cells → Cells (turnCells v cells)
+unfolding turnCells
+turn-ok v cells ok =
+    record {
+      long = length-tab 225 (λ q. getD cells (turn (undo v) q) 0);
+      small = λ q h.
+          rw (getD-tab 225 (λ q. getD cells (turn (undo v) q) 0) q h)
+          (small (turn (undo v) q) (decide (ltb (turn (undo v) q) 225)));
+    }
+  where
+    small : (p : ℕ) → (ltb p 225 ≡ true) ⊎ (ltb p 225 ≡ false) → getD cells p 0 ≤ 2
+    small p (inl t) = ok .small p (ltb-true p 225 t)
+    small p (inr t) = rw (List·getD-eq-default cells 0 {n = p} (omega (arith, ok .long, ltb-false p 225 t))) (omega arith)
+
+-- ---- answers look at their value only where nothing is refused
+
+pub board-given : (refused : ℕ) (lines cells : List ℕ) → (refused ≡ 0 → lines ≡ linesOf cells)
+    → linesAnswer refused lines ≡ boardAnswer refused cells
+unfolding linesAnswer boardAnswer boardOf
+board-given refused lines cells h = go (decide (eqb refused 0))
+  where
+    go : (eqb refused 0 ≡ true) ⊎ (eqb refused 0 ≡ false) → linesAnswer refused lines ≡ boardAnswer refused cells
+    go (inl t) = rw (t, h (eqb-true refused 0 t))
+    go (inr t) = rw (t, lines-zeros)
+
+pub stone-given : (refused v w : ℕ) → (refused ≡ 0 → v ≡ w)
+    → stoneAnswer refused (eqb v 1) (eqb v 2) ≡ stoneAnswer refused (eqb w 1) (eqb w 2)
+unfolding stoneAnswer
+stone-given refused v w h = go (decide (eqb refused 0))
+  where
+    go : (eqb refused 0 ≡ true) ⊎ (eqb refused 0 ≡ false)
+        → stoneAnswer refused (eqb v 1) (eqb v 2) ≡ stoneAnswer refused (eqb w 1) (eqb w 2)
+    go (inl t) = rw (h (eqb-true refused 0 t))
+    go (inr t) = rw t
+
+pub starts-given : (refused : ℕ) (a b : List ℕ) → (refused ≡ 0 → a ≡ b) → startsAnswer refused a ≡ startsAnswer refused b
+unfolding startsAnswer
+starts-given refused a b h = go (decide (eqb refused 0))
+  where
+    go : (eqb refused 0 ≡ true) ⊎ (eqb refused 0 ≡ false) → startsAnswer refused a ≡ startsAnswer refused b
+    go (inl t) = rw (t, h (eqb-true refused 0 t))
+    go (inr t) = rw t
+
+-- ---- the cells, written out
+
+pub cells-out : (refused : ℕ) (out bytes l : List ℕ) (r : ℕ) (out′ : List ℕ) → bytes ≡ cellsOf l
+    → (r ≡ listRefusal refused out (take 225 bytes)) × (out′ ≡ listOut refused out (take 225 bytes))
+    → (r ≡ listRefusal refused out (cellsOf l)) × (out′ ≡ listOut refused out (cellsOf l))
+cells-out refused out bytes l r out′ e h =
+    let whole : take 225 bytes ≡ cellsOf l = ap (take 225) e ∙ take-all 225 (cellsOf l) (let n = length-cellsOf l in omega arith) in
+    (h .0 ∙ ap (listRefusal refused out) whole, h .1 ∙ ap (listOut refused out) whole)
+
+-- ---- stones put one after the other
+
+-- a turn of the loop that puts them
+pub puts-more : (alternate : Bool) (r : Player) (codes l : List ℕ) (i : ℕ) → i < length codes
+    → playLines (puts alternate r (drop i codes)) l
+    ≡ playLines (puts alternate (cond alternate (opponentOf r) r) (drop (i + 1) codes)) (writeOn l (getD codes i 0) (colourNo r))
+unfolding puts playLines
+puts-more alternate r codes l i h =
+    ap (λ (x : List ℕ). playLines (puts alternate r x) l) (drop-cons codes i 0 h)
+    ∙ ap (λ (n : ℕ). playLines (puts alternate (cond alternate (opponentOf r) r) (drop n codes)) (writeOn l (getD codes i 0) (colourNo r)))
+    (sym (add-one i))
+
+pub puts-end : (alternate : Bool) (r : Player) (codes l : List ℕ) (i : ℕ) → length codes ≤ i
+    → playLines (puts alternate r (drop i codes)) l ≡ l
+unfolding puts playLines
+puts-end alternate r codes l i h = ap (λ (x : List ℕ). playLines (puts alternate r x) l) (drop-out codes i h)
+  where
+    drop-out : (x : List ℕ) (i : ℕ) → length x ≤ i → drop i x ≡ []
+    drop-out [] zero h = refl
+    drop-out [] (suc i) h = refl
+    drop-out (a ∷ x) zero h = absurd (not-suc-le-zero h)
+    drop-out (a ∷ x) (suc i) h = drop-out x i (le-of-suc-le-suc h)
+
+-- .. on the empty board, once and twice
+pub puts-none : (a : List Change) → playLines a (zeros 144) ≡ linesOf (play a (zeros 225))
+puts-none a = play-lines a (zeros 144) sound-zeros ∙ ap (λ (x : List ℕ). linesOf (play a x)) cells-lines-zeros
+
+pub puts-twice : (a b : List Change) → playLines b (playLines a (zeros 144)) ≡ linesOf (play b (play a (zeros 225)))
+puts-twice a b =
+    play-lines b (playLines a (zeros 144)) (play-sound a (zeros 144) sound-zeros)
+    ∙ ap (λ (x : List ℕ). linesOf (play b x)) (play-cells a (zeros 144) sound-zeros ∙ ap (play a) cells-lines-zeros)
+
+-- ---- the starts of rows
+
+pub starts-sound : (r : Player) (k : RowKind) (l : List ℕ) (p : ℕ) → Sound l → p < 225
+    → startsOn l p r k ≡ startsOf r k (cellsOf l) p
+unfolding startsOn startsOf
+starts-sound r k l p s hp =
+    tab-cong 4 (startsIn l p r k) (λ d. maskOf 16 (rowsThrough r k (cellsOf l) p d)) (λ d hd. starts-in r k l p d s hd hp)

@@ -1,0 +1,2 @@
+-- The laws of boards, for other crates to cite.
+pub mod Given

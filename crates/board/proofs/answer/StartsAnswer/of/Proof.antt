@@ -1,0 +1,17 @@
+-- `board::answer::StartsAnswer::of` meets its contract: the starts, or the number and zeros. Assumes nothing.
+use borrow.Author.Tests.{eq-eqb, ne-eqb}
+use Rattle.lent.specs.Lists.{zeros}
+use Rattle.board.specs.Answers.{startsAnswer}
+use Rattle.board.proofs.answer.StartsAnswer.of.Statement.{statement}
+use Rattle.board.proofs.answer.StartsAnswer.of.Tie as tie
+
+returns : tie.Need-returns
+unfolding startsAnswer
+returns c = rw (eq-eqb (c .before .args .refused) 0 (c .if1 .taken))
+
+returns-2 : tie.Need-returns-2
+unfolding startsAnswer zeros
+returns-2 c = rw (ne-eqb (c .before .args .refused) 0 (c .if1 .left))
+
+pub of-spec : {M : Type 1} → statement M
+of-spec = tie.close (tie.spec returns returns-2)

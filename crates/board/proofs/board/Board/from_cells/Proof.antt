@@ -1,0 +1,21 @@
+-- `board::board::Board::from_cells` meets its contract: the lines are those of the bytes. Assumes nothing.
+use mathlib.Core.Path.{refl}
+use Rattle.board.proofs.Given.{board-given}
+use borrow.Author.Needs.{needs}
+use Rattle.board.proofs.board.Board.from_cells.Statement.{statement}
+use Rattle.board.proofs.board.Board.from_cells.Tie as tie
+
+cells-refusal-requires : tie.Need-cells-refusal-requires
+cells-refusal-requires c κs = search needs
+
+lines-of-requires : tie.Need-lines-of-requires
+lines-of-requires c κs = search needs
+
+of-requires : tie.Need-of-requires
+of-requires c κs = search needs
+
+returns : tie.Need-returns
+returns c = simp (c .of .ensures, c .before .lines-of .ensures, c .before .before .cells-refusal .ensures) (board-given _ _ _ (λ e. refl))
+
+pub from-cells-spec : {M : Type 1} → statement M
+from-cells-spec = tie.close (tie.spec cells-refusal-requires lines-of-requires of-requires returns)

@@ -1,0 +1,6 @@
+-- The laws of the stored lines, for other crates to cite.
+pub mod Lines
+pub mod Agreed
+pub mod Filled
+pub mod RowStarts
+pub mod Placed

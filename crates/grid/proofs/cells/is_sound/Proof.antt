@@ -1,0 +1,34 @@
+-- `grid::cells::is_sound` meets its contract: what it calls says it. Assumes nothing.
+use mathlib.Core.Path.{ap, sym, _∙_}
+use lib.ListN.{length}
+use borrow.Author.Needs.{needs}
+use Rattle.grid.specs.Lines.{isSound}
+use Rattle.grid.proofs.Lines.{length-cellsOf}
+use Rattle.grid.proofs.cells.is_sound.Statement.{statement}
+use Rattle.grid.proofs.cells.is_sound.Tie as tie
+
+cells-of-requires : tie.Need-cells-of-requires
+cells-of-requires c κs = search needs
+
+slice-aggregate-lines-of : tie.Need-slice-aggregate-lines-of
+slice-aggregate-lines-of c = sym (ap length (c .before .cells-of .ensures) ∙ length-cellsOf _)
+
+lines-of-requires : tie.Need-lines-of-requires
+lines-of-requires c κs = search needs
+
+same-lines-requires : tie.Need-same-lines-requires
+same-lines-requires c κs = search needs
+
+returns : tie.Need-returns
+unfolding isSound
+returns c = cc
+
+pub is-sound-spec : {M : Type 1} → statement M
+is-sound-spec =
+    tie.close
+    (tie.spec
+    cells-of-requires
+    slice-aggregate-lines-of
+    lines-of-requires
+    same-lines-requires
+    returns)

@@ -1,0 +1,101 @@
+-- The stored lines: 72 lines in 144 masks. The meaning of a board is its 225 cells; here are the lines of cells, the cells that lines show,
+-- and what put, remove and the starts of rows are on any masks. On sound lines they are what the rules say (proofs/).
+use mathlib.Core.Path.{_≡_}
+use mathlib.Core.Bool.{Bool, true, false, _&&_, cond}
+use mathlib.Core.List.{List, [], _∷_}
+use Prim.Native.Nat.{ℕ, _+_, _%_}
+use lib.Dec.{eqb, ltb}
+use lib.ListN.{getD, set}
+use Rattle.rules.specs.Numbers.{colourNo, isBlack, opponentOf}
+use Rattle.rules.specs.Tools.{tab}
+use Rattle.rules.specs.Bit.{bit, maskOf}
+use Rattle.rules.specs.Line.{Stones, rowAt, through}
+use Rattle.rules.specs.Point.{xOf, yOf, cellNo, keyAt, keyDir, keyNo, keySize}
+use Rattle.rules.specs.Grid.{Change, Put, Remove, stoneAt}
+use Rattle.rules.specs.declared.Player.{Player}
+use Rattle.rules.specs.declared.Player.the-variants.{Black, White}
+use Rattle.rules.specs.declared.RowKind.{RowKind}
+use Rattle.masks.specs.Masks.{placed}
+use Rattle.point.specs.Places.{hasPlace}
+
+-- ---- the masks
+
+-- entry k is the black mask of the line of key k, entry 72 + k its white mask
+abbrev pub entryNo : Player → ℕ → ℕ
+entryNo Black k = k
+entryNo White k = 72 + k
+
+-- and back: whose mask an entry is
+abbrev pub ownerOf : ℕ → Player
+ownerOf e = cond (ltb e 72) Black White
+
+-- the mask of the player's stones on the line of key k, 0 for a key over 71
+unfoldable pub maskOn : Player → List ℕ → ℕ → ℕ
+maskOn r l k = cond (ltb k 72) (getD l (entryNo r k) 0) 0
+
+-- cell j of that line shows a stone of the player's
+abbrev pub shows : Player → List ℕ → ℕ → Stones
+shows r l k = bit (maskOn r l k)
+
+-- ---- the lines of cells, and the cells of lines
+
+-- entry e of the lines of a board with these cells: bit j is on where cell j of its line holds a stone of its owner's
+unfoldable pub entryOf : List ℕ → ℕ → ℕ
+entryOf cells e = maskOf 16 (stoneAt (ownerOf e) cells (keyDir (e % 72)) (keyNo (e % 72)))
+
+unfoldable pub linesOf : List ℕ → List ℕ
+linesOf cells = tab 144 (entryOf cells)
+
+-- what the vertical line through p shows at p
+unfoldable pub cellOf : List ℕ → ℕ → ℕ
+cellOf l p = cond (bit (getD l (xOf p) 0) (yOf p)) 1 (cond (bit (getD l (72 + xOf p) 0) (yOf p)) 2 0)
+
+unfoldable pub cellsOf : List ℕ → List ℕ
+cellsOf l = tab 225 (cellOf l)
+
+-- Lines are sound that are the lines of their own cells: no bit outside a line, no cell with both colours, and every stored line through a
+-- point agrees on it (section 1's wording is proofs/Agreed.antt, and the two are shown to be one).
+unfoldable pub Sound : List ℕ → Type 0
+Sound l = l ≡ linesOf (cellsOf l)
+
+-- the same as a test
+unfoldable pub sameList : List ℕ → List ℕ → Bool
+sameList [] [] = true
+sameList [] (y ∷ m) = false
+sameList (x ∷ l) [] = false
+sameList (x ∷ l) (y ∷ m) = eqb x y && sameList l m
+
+unfoldable pub isSound : List ℕ → Bool
+isSound l = sameList l (linesOf (cellsOf l))
+
+-- ---- put and remove: a cell's value v (0 empty, 1 black, 2 white) written on the lines
+
+-- at cell j of the line of key k
+unfoldable pub writeLine : List ℕ → ℕ → ℕ → ℕ → List ℕ
+writeLine l k j v =
+    set (set l k (maskOf 16 (placed (bit (getD l k 0)) j (eqb v 1)))) (72 + k) (maskOf 16 (placed (bit (getD l (72 + k) 0)) j (eqb v 2)))
+
+-- on the line through p in direction d, if it is stored
+unfoldable pub writeIn : List ℕ → ℕ → ℕ → ℕ → List ℕ
+writeIn l d p v = cond (hasPlace d p) (writeLine l (keyAt d p) (cellNo d p) v) l
+
+-- on all four
+unfoldable pub writeOn : List ℕ → ℕ → ℕ → List ℕ
+writeOn l p v = writeIn (writeIn (writeIn (writeIn l 0 p v) 1 p v) 2 p v) 3 p v
+
+-- a sequence of puts and removes, one after the other
+unfoldable pub playLines : List Change → List ℕ → List ℕ
+playLines [] l = l
+playLines (Put r p ∷ changes) l = playLines changes (writeOn l p (colourNo r))
+playLines (Remove p ∷ changes) l = playLines changes (writeOn l p 0)
+
+-- ---- the starts of the player's rows of the kind through p: on the line in direction d, 0 where it is not stored; on all four
+unfoldable pub startsIn : List ℕ → ℕ → Player → RowKind → ℕ → ℕ
+startsIn l p r k d =
+    cond (hasPlace d p)
+    (maskOf 16 (λ j.
+    rowAt (isBlack r) (keySize (keyAt d p)) (shows r l (keyAt d p)) (shows (opponentOf r) l (keyAt d p)) k j && through k (cellNo d p) j))
+    0
+
+unfoldable pub startsOn : List ℕ → ℕ → Player → RowKind → List ℕ
+startsOn l p r k = tab 4 (startsIn l p r k)

@@ -1,0 +1,16 @@
+// The stored lines of grid.rs: 72 lines in 144 masks, lent by their caller. Put and remove, the cells and back, soundness, and the starts
+// of rows through a point. Every function takes any masks; what it says of a board is said where they are sound (proofs/).
+mod cells;
+mod starts;
+mod store;
+
+pub use cells::cell_of;
+pub use cells::cells_of;
+pub use cells::is_sound;
+pub use cells::lines_of;
+pub use cells::value_at;
+pub use starts::row_starts_on;
+pub use starts::starts_in;
+pub use store::mask_on;
+pub use store::put_on;
+pub use store::remove_on;

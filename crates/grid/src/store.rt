@@ -1,0 +1,69 @@
+// A stone put on the stored lines, and taken off: four plain updates, one for each direction.
+use masks::set_bit;
+use point::address;
+use rules::Player;
+ghost use mathlib.Core.Path.{_≡_};
+ghost use Prim.Native.Nat.{_<_};
+ghost use Rattle.rules.specs.Numbers.{colourNo};
+ghost use Rattle.grid.specs.Lines.{maskOn, writeLine, writeIn, writeOn};
+
+// A stone at a point, in place of what stood there. Nothing changes at a code over 224.
+pub fn put_on(lines: &mut [u16; 144], player: Player, code: u8)
+    ensures { λ _. ⌜ now (lines .exit) ≡ writeOn (now (lines .entry)) code (colourNo player) ⌝ }
+{
+    write_on(lines, code, player.number());
+}
+
+// A point made empty.
+pub fn remove_on(lines: &mut [u16; 144], code: u8)
+    ensures { λ _. ⌜ now (lines .exit) ≡ writeOn (now (lines .entry)) code 0 ⌝ }
+{
+    write_on(lines, code, 0);
+}
+
+// A cell's value, as in cell bytes, on the four lines through a point.
+pub(crate) fn write_on(lines: &mut [u16; 144], code: u8, value: u8)
+    ensures { λ _. ⌜ now (lines .exit) ≡ writeOn (now (lines .entry)) code value ⌝ }
+{
+    write_in(lines, 0, code, value);
+    write_in(lines, 1, code, value);
+    write_in(lines, 2, code, value);
+    write_in(lines, 3, code, value);
+}
+
+// .. on the line through it in one direction, if that is stored.
+fn write_in(lines: &mut [u16; 144], d: u8, code: u8, value: u8)
+    requires { ⌜ d < 4 ⌝ }
+    ensures { λ _. ⌜ now (lines .exit) ≡ writeIn (now (lines .entry)) d code value ⌝ }
+{
+    let a = address(d, code);
+    if a.stored {
+        write_line(lines, a.key, a.cell, value);
+    }
+}
+
+// .. at a cell of one line: its bit in the black mask and in the white one.
+fn write_line(lines: &mut [u16; 144], key: u8, cell: u8, value: u8)
+    requires { ⌜ key < 72 ⌝ }
+    ensures { λ _. ⌜ now (lines .exit) ≡ writeLine (now (lines .entry)) key cell value ⌝ }
+{
+    let k = key as usize;
+    let blacks = set_bit(lines[k], cell, value == 1);
+    let whites = set_bit(lines[72 + k], cell, value == 2);
+    lines[k] = blacks;
+    lines[72 + k] = whites;
+}
+
+// The player's stones on the line of a key; none for a key over 71.
+pub fn mask_on(lines: &[u16; 144], player: Player, key: u8) -> u16
+    ensures { λ r. ⌜ r ≡ maskOn player (now (lines .entry)) key ⌝ }
+{
+    if 72 <= key {
+        return 0;
+    }
+    let k = key as usize;
+    match player {
+        Player::Black => lines[k],
+        Player::White => lines[72 + k],
+    }
+}

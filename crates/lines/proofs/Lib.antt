@@ -1,0 +1,2 @@
+-- The laws of copied lines.
+pub mod Copied

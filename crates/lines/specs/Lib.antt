@@ -1,0 +1,2 @@
+-- What the contracts of `lines` cite beside the rules: copied lines.
+pub mod Copies

@@ -1,0 +1,70 @@
+-- `lists::row_bytes::rows_through` meets its contract: after d turns the lines of the first d directions are done. Assumes nothing.
+use Prim.Native.Nat.{_-_, _≤_}
+use native.Mathlib.Omega.{arith}
+use borrow.Author.Needs.{needs}
+use Rattle.rules.specs.Tools.{gather}
+use Rattle.rules.specs.Point.{lineNo}
+use Rattle.rules.specs.Grid.{rowsOnPoint, rowsIn}
+use Rattle.grid.specs.Lines.{cellsOf}
+use Rattle.lent.specs.Lists.{zeros, Wrote}
+use Rattle.lent.proofs.Laws.{wrote-start, wrote-length, wrote-part}
+use Rattle.lists.proofs.Kept.{rows-short, parts-place, parts-end}
+use Rattle.lists.proofs.row_bytes.rows_through.Statement.{statement}
+use Rattle.lists.proofs.row_bytes.rows_through.Tie as tie
+
+abbrev Inv-loop : tie.InvT-loop
+Inv-loop lines code player kind bytes₀ n₀ d₀ bytes n d = (d ≤ 4)
+    × Wrote (zeros 240) 0 (gather d (rowsIn player kind (cellsOf lines) code)) bytes n
+
+abbrev μ-loop : tie.MeasureT-loop
+μ-loop lines code player kind bytes₀ n₀ d₀ bytes n d = 4 - d
+
+loop-holds : tie.Need-loop-holds Inv-loop μ-loop
+unfolding zeros
+loop-holds c = (omega arith, wrote-start 240 _)
+
+slice-aggregate-keep-rows-in : tie.Need-slice-aggregate-keep-rows-in Inv-loop μ-loop
+slice-aggregate-keep-rows-in c = wrote-length 240 (c .before .before .loop .inv .1)
+
+keep-rows-in-requires : tie.Need-keep-rows-in-requires Inv-loop μ-loop
+keep-rows-in-requires c κs =
+    let s = c .before .before in
+    let a = s .before .args in
+    let h = s .before .pre in
+    let on = c .before .loop-test .taken in
+    let at = parts-place 240 60 _ (λ i. rows-short _ _ _ i (lineNo i (a .code)) _) (s .loop .d)
+    (s .loop .inv .1) in
+    (h .0, h .1, on, omega (arith, at, on, wrote-length 240 (s .loop .inv .1)))
+
+add-d : tie.Need-add-d Inv-loop μ-loop
+add-d c = search needs
+
+loop-less : tie.Need-loop-less Inv-loop μ-loop
+loop-less c = search needs
+
+loop-again : tie.Need-loop-again Inv-loop μ-loop
+loop-again c =
+    let s = c .before .before .before .before in
+    (omega arith, wrote-part _ (s .loop .d) (s .loop .inv .1) (c .before .keep-rows-in .ensures))
+
+returns : tie.Need-returns Inv-loop μ-loop
+unfolding rowsOnPoint
+returns c =
+    let s = c .before in
+    let a = s .before .args in
+    parts-end 240 60 _ (λ i. rows-short _ _ _ i (lineNo i (a .code)) _) (s .loop .d) 4
+    (omega arith) (omega arith) (s .loop .inv .1)
+
+pub rows-through-spec : {M : Type 1} → statement M
+rows-through-spec =
+    tie.close
+    (tie.spec
+    Inv-loop
+    μ-loop
+    loop-holds
+    slice-aggregate-keep-rows-in
+    keep-rows-in-requires
+    add-d
+    loop-less
+    loop-again
+    returns)

@@ -1,0 +1,151 @@
+// The fronts: each tests what it is given, in section 2's order, collects its list, and hands it out.
+use super::answer::CountAnswer;
+use super::codes::four_eyes;
+use super::codes::mask_points;
+use super::codes::near_points;
+use super::codes::points_with;
+use super::refusal::eyes_refusal;
+use super::refusal::mask_refusal;
+use super::refusal::near_refusal;
+use super::refusal::rows_on_refusal;
+use super::refusal::rows_refusal;
+use super::refusal::stones_refusal;
+use super::row_bytes::all_rows;
+use super::row_bytes::rows_through;
+use board::Board;
+use lent::write_out;
+use rules::Player;
+use rules::RowKind;
+ghost use mathlib.Core.Path.{_≡_};
+ghost use Prim.Native.Nat.{_/_, _<_};
+ghost use lib.ListN.{take};
+ghost use Rattle.rules.specs.Numbers.{playerOf, kindOf};
+ghost use Rattle.rules.specs.Grid.{stonesOf, emptyPoints, neighbours, rowsOf, rowsOnPoint, fourEyes};
+ghost use Rattle.lent.specs.Lists.{listRefusal, listOut};
+ghost use Rattle.board.specs.Boards.{cells, boardRefusal};
+ghost use Rattle.lists.specs.Lists.{stonesRefusal, nearRefusal, rowsRefusal, rowsOnRefusal, eyesRefusal, maskRefusal, maskPoints};
+ghost use Rattle.lists.specs.Answers.{countAnswer, counted};
+
+// The colour's stones, as codes, ascending.
+pub fn stones(board: Board, colour: u8, out: &mut [u8]) -> CountAnswer
+    ensures { λ r. ⌜ (r ≡ counted 1 (stonesRefusal board colour) (now (out .entry))
+        (stonesOf (playerOf colour) (cells board)))
+        × (now (out .exit) ≡ listOut (stonesRefusal board colour) (now (out .entry))
+        (stonesOf (playerOf colour) (cells board))) ⌝ }
+{
+    let refused = stones_refusal(board, colour);
+    let lines = board.lines;
+    let found = points_with(&lines, Player::of(colour).number());
+    let bytes = found.bytes;
+    hand_out(refused, &bytes, found.len, 1, out)
+}
+
+// The empty points, as codes, ascending.
+pub fn empty_points(board: Board, out: &mut [u8]) -> CountAnswer
+    ensures { λ r. ⌜ (r ≡ counted 1 (boardRefusal board) (now (out .entry)) (emptyPoints (cells board)))
+        × (now (out .exit) ≡ listOut (boardRefusal board) (now (out .entry)) (emptyPoints (cells board))) ⌝ }
+{
+    let refused = board.refusal();
+    let lines = board.lines;
+    let found = points_with(&lines, 0);
+    let bytes = found.bytes;
+    hand_out(refused, &bytes, found.len, 1, out)
+}
+
+// The cells from `distance` before a point to `distance` after it, in each direction, short diagonals too, the point each time.
+pub fn neighbors(
+    board: Board,
+    code: u8,
+    distance: u8,
+    only_empty: bool,
+    out: &mut [u8],
+) -> CountAnswer
+    ensures { λ r. ⌜ (r ≡ counted 1 (nearRefusal board code distance) (now (out .entry))
+        (neighbours (cells board) code distance «only_empty»))
+        × (now (out .exit) ≡ listOut (nearRefusal board code distance) (now (out .entry))
+        (neighbours (cells board) code distance «only_empty»)) ⌝ }
+{
+    let refused = near_refusal(board, code, distance);
+    if refused != 0 {
+        return CountAnswer::Refused(refused);
+    }
+    let lines = board.lines;
+    let found = near_points(&lines, code, distance, only_empty);
+    let bytes = found.bytes;
+    hand_out(refused, &bytes, found.len, 1, out)
+}
+
+// The colour's rows of a kind, by key, then start, four bytes each.
+pub fn rows(board: Board, colour: u8, kind: u8, out: &mut [u8]) -> CountAnswer
+    ensures { λ r. ⌜ (r ≡ counted 4 (rowsRefusal board colour kind) (now (out .entry))
+        (rowsOf (playerOf colour) (kindOf kind) (cells board)))
+        × (now (out .exit) ≡ listOut (rowsRefusal board colour kind) (now (out .entry))
+        (rowsOf (playerOf colour) (kindOf kind) (cells board))) ⌝ }
+{
+    let refused = rows_refusal(board, colour, kind);
+    if refused != 0 {
+        return CountAnswer::Refused(refused);
+    }
+    let lines = board.lines;
+    let found = all_rows(&lines, Player::of(colour), RowKind::of(kind));
+    let bytes = found.bytes;
+    hand_out(refused, &bytes, found.len, 4, out)
+}
+
+// Those through a point, line by line.
+pub fn rows_on(board: Board, code: u8, colour: u8, kind: u8, out: &mut [u8]) -> CountAnswer
+    ensures { λ r. ⌜ (r ≡ counted 4 (rowsOnRefusal board code colour kind) (now (out .entry))
+        (rowsOnPoint (playerOf colour) (kindOf kind) (cells board) code))
+        × (now (out .exit) ≡ listOut (rowsOnRefusal board code colour kind) (now (out .entry))
+        (rowsOnPoint (playerOf colour) (kindOf kind) (cells board) code)) ⌝ }
+{
+    let refused = rows_on_refusal(board, code, colour, kind);
+    if refused != 0 {
+        return CountAnswer::Refused(refused);
+    }
+    let lines = board.lines;
+    let found = rows_through(&lines, code, Player::of(colour), RowKind::of(kind));
+    let bytes = found.bytes;
+    hand_out(refused, &bytes, found.len, 4, out)
+}
+
+// The points where the colour makes a five of a four through a point, line by line, each cell once a line, ascending.
+pub fn four_eyes_on(board: Board, code: u8, colour: u8, out: &mut [u8]) -> CountAnswer
+    ensures { λ r. ⌜ (r ≡ counted 1 (eyesRefusal board code colour) (now (out .entry))
+        (fourEyes (playerOf colour) (cells board) code))
+        × (now (out .exit) ≡ listOut (eyesRefusal board code colour) (now (out .entry))
+        (fourEyes (playerOf colour) (cells board) code)) ⌝ }
+{
+    let refused = eyes_refusal(board, code, colour);
+    if refused != 0 {
+        return CountAnswer::Refused(refused);
+    }
+    let lines = board.lines;
+    let found = four_eyes(&lines, code, Player::of(colour));
+    let bytes = found.bytes;
+    hand_out(refused, &bytes, found.len, 1, out)
+}
+
+// The points of a row's stones or eyes: cells j + k of the line of a key, for k the set bits of the row's mask.
+pub fn row_points(key: u8, j: u8, mask: u8, out: &mut [u8]) -> CountAnswer
+    ensures { λ r. ⌜ (r ≡ counted 1 (maskRefusal key j mask) (now (out .entry)) (maskPoints key j mask))
+        × (now (out .exit) ≡ listOut (maskRefusal key j mask) (now (out .entry)) (maskPoints key j mask)) ⌝ }
+{
+    let refused = mask_refusal(key, j, mask);
+    if refused != 0 {
+        return CountAnswer::Refused(refused);
+    }
+    let found = mask_points(key, j, mask);
+    let bytes = found.bytes;
+    hand_out(refused, &bytes, found.len, 1, out)
+}
+
+// A collected list of items of `size` bytes written to the front of `out`, and how many items it has; or what was refused, or 13.
+fn hand_out(refused: u8, bytes: &[u8], len: usize, size: usize, out: &mut [u8]) -> CountAnswer
+    requires { ⌜ (0 < size) × (len < 65536) ⌝ }
+    ensures { λ r. ⌜ (r ≡ countAnswer (listRefusal refused (now (out .entry)) (take len (now (bytes .entry)))) (len / size))
+        × (now (out .exit) ≡ listOut refused (now (out .entry)) (take len (now (bytes .entry)))) ⌝ }
+{
+    let refusal = write_out(refused, out, bytes, len);
+    CountAnswer::of(refusal, (len / size) as u16)
+}

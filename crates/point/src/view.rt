@@ -1,0 +1,61 @@
+// The eight views of a point (section 6).
+use super::index::code_refusal;
+use super::lines::wide_less;
+use rules::NumberAnswer;
+use rules::first;
+use rules::unless;
+ghost use mathlib.Core.Path.{_≡_};
+ghost use Rattle.rules.specs.Refusals.{first};
+ghost use Rattle.rules.specs.Answers.{numberAnswer};
+ghost use Rattle.rules.specs.Views.{turn, undo};
+ghost use Rattle.point.specs.Points.{codeRefusal, viewRefusal};
+
+// 12 for a view over 7.
+pub fn view_refusal(view: u8) -> u8
+    ensures { λ r. ⌜ r ≡ viewRefusal view ⌝ }
+{
+    unless(view < 8, 12)
+}
+
+// The code of the point to which a view sends a point; a view over 7 is taken for 7. Any code may be asked, and that of 255
+// in view 5 is 269, so that it is wider than a code.
+pub fn turned(view: u8, code: u8) -> u16
+    ensures { λ r. ⌜ r ≡ turn view code ⌝ }
+{
+    let x = (code / 15) as u16;
+    let y = (code % 15) as u16;
+    let x_back = wide_less(14, x);
+    let y_back = wide_less(14, y);
+    match view {
+        0 => 15 * x + y,
+        1 => 15 * y + x_back,
+        2 => 15 * x_back + y_back,
+        3 => 15 * y_back + x,
+        4 => 15 * x_back + y,
+        5 => 15 * x + y_back,
+        6 => 15 * y + x,
+        _ => 15 * y_back + x_back,
+    }
+}
+
+// The view that takes a view back.
+pub fn undone(view: u8) -> u8
+    ensures { λ r. ⌜ r ≡ undo view ⌝ }
+{
+    match view {
+        1 => 3,
+        3 => 1,
+        _ => view,
+    }
+}
+
+// `turned`, with refusals.
+pub fn turn_point(code: u8, view: u8) -> NumberAnswer
+    ensures { λ r. ⌜ r ≡ numberAnswer (first (codeRefusal code) (viewRefusal view)) (turn view code) ⌝ }
+{
+    let refused = first(code_refusal(code), view_refusal(view));
+    if refused != 0 {
+        return NumberAnswer::Refused(refused);
+    }
+    NumberAnswer::Is(turned(view, code) as u8)
+}
