@@ -7,10 +7,10 @@ use native.Mathlib.Nat.{pow-suc, pow-le-pow-right}
 use native.Mathlib.Numerals.{add-one}
 use native.Mathlib.Omega.{arith}
 use lib.Dec.{leb, eqb}
-use lib.ListN.{length, getD, drop, length-drop}
+use lib.ListN.{length, getD, drop, length-drop, drop-of-length-le}
 use lib.Seq.{drop-cons}
 use borrow.Author.Tests.{leb-true, eq-eqb, ne-eqb}
-use Rattle.records.specs.Records.{byteAt, digitOf, spelled, hexOf, lineLength, lineEnd}
+use Rattle.records.specs.Records.{byteAt, digitOf, spelled, hexOf, lineLength, lineEnd, lineAt}
 
 -- ---- digits
 
@@ -85,3 +85,17 @@ line-here s i h e = rw (drop-cons s i 0 h, eq-eqb (getD s i 0) 10 e) (omega arit
 pub line-on : (s : List ℕ) (i : ℕ) → i < length s → (getD s i 0 ≡ 10 → ⊥) → lineEnd s i ≡ lineEnd s (i + 1)
 unfolding lineEnd lineLength
 line-on s i h e = rw (drop-cons s i 0 h, ne-eqb (getD s i 0) 10 e, add-one i) (omega arith)
+
+-- a line's bytes, cut at its end
+pub line-cut : (s : List ℕ) (at : ℕ) → at ≤ length s → lineEnd s at - at ≡ lineLength (drop at s)
+unfolding lineEnd
+line-cut s at h = omega arith
+
+-- .. and past the end there are none
+pub line-none : (s : List ℕ) (at : ℕ) → lineEnd s at < at → lineAt s at ≡ []
+unfolding lineAt lineEnd lineLength
+line-none s at h = rw (drop-of-length-le s {i = at} (omega arith))
+
+-- the next line leaves fewer bytes
+pub next-less : (s : List ℕ) (at : ℕ) → at < length s → length s - (lineEnd s at + 1) < length s - at
+next-less s at h = omega (arith, line-from s at (omega arith))

@@ -3,7 +3,7 @@ use mathlib.Core.Bool.{_&&_, cond}
 use mathlib.Core.List.{List, [], _∷_}
 use Prim.Native.Nat.{ℕ, zero, suc, _+_, _-_, _*_, min}
 use lib.Dec.{leb, eqb}
-use lib.ListN.{length, getD, drop}
+use lib.ListN.{length, getD, take, drop}
 
 -- the byte at place i, 0 past the end
 abbrev pub byteAt : List ℕ → ℕ → ℕ
@@ -30,3 +30,7 @@ lineLength (b ∷ s) = cond (eqb b 10) 0 (suc (lineLength s))
 -- the place of the first byte 10 at or after `from`, or the length
 unfoldable pub lineEnd : List ℕ → ℕ → ℕ
 lineEnd s from = min from (length s) + lineLength (drop from s)
+
+-- the bytes from a place to the end of its line
+unfoldable pub lineAt : List ℕ → ℕ → List ℕ
+lineAt s at = take (lineLength (drop at s)) (drop at s)

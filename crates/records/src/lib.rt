@@ -1,7 +1,20 @@
-// The fields of recorded answers, read from bytes: a byte, a number in hex, the end of a line. Past the end every byte counts as 0.
+// Recorded answers: their lines and fields, read from bytes, and what a replay of them counts and writes. Past the end every byte counts
+// as 0.
+mod answers;
+mod report;
+mod tally;
+
+pub use answers::number_is;
+pub use answers::stone_is;
+pub use report::say;
+pub use report::say_end;
+pub use report::say_tally;
+pub use report::shown;
+pub use tally::Tally;
 ghost use mathlib.Core.Path.{_≡_};
-ghost use Prim.Native.Nat.{_+_, min};
-ghost use Rattle.records.specs.Records.{byteAt, digitOf, hexOf, lineEnd};
+ghost use Prim.Native.Nat.{_+_, _≤_, min};
+ghost use lib.Count.{ones};
+ghost use Rattle.records.specs.Records.{byteAt, digitOf, hexOf, lineEnd, lineAt};
 
 pub fn byte_at(s: &[u8], i: usize) -> u8
     ensures { λ r. ⌜ r ≡ byteAt (now (s .entry)) i ⌝ }
@@ -23,6 +36,13 @@ pub fn hex(s: &[u8], at: usize, digits: u8) -> u16
     v
 }
 
+// The byte that the two digits at a place spell.
+pub fn byte(s: &[u8], at: usize) -> u8
+    ensures { λ r. ⌜ r ≡ hexOf (now (s .entry)) at 2 ⌝ }
+{
+    hex(s, at, 2) as u8
+}
+
 // The place of the first byte 10 at or after `from`, or the length.
 pub fn line_end(s: &[u8], from: usize) -> usize
     ensures { λ r. ⌜ r ≡ lineEnd (now (s .entry)) from ⌝ }
@@ -35,6 +55,31 @@ pub fn line_end(s: &[u8], from: usize) -> usize
         i += 1;
     }
     s.len()
+}
+
+// The bytes from a place to the end of its line.
+pub fn line_at(s: &[u8], at: usize) -> &[u8]
+    ensures { λ r. ⌜ now r ≡ lineAt (now (s .entry)) at ⌝ }
+{
+    let end = line_end(s, at);
+    if at <= end {
+        return &s[at..end];
+    }
+    &s[..0]
+}
+
+// The place behind the end of a place's line.
+pub fn next_line(s: &[u8], at: usize) -> usize
+    ensures { λ r. ⌜ r ≡ lineEnd (now (s .entry)) at + 1 ⌝ }
+{
+    line_end(s, at) + 1
+}
+
+// How many bits a mask has.
+pub fn count_bits(mask: u16) -> u8
+    ensures { λ r. ⌜ (r ≡ ones mask) × (r ≤ 16) ⌝ }
+{
+    u16::count_ones(mask) as u8
 }
 
 fn at_most_four(n: u8) -> u8

@@ -2,9 +2,7 @@
 use line::Line;
 use line::LineAnswer;
 use rules::MaskAnswer;
-use rules::NumberAnswer;
 use rules::ScoreAnswer;
-use rules::StoneAnswer;
 use rules::TestAnswer;
 use segment::Segment;
 
@@ -12,13 +10,6 @@ pub(crate) fn mask_is(answer: MaskAnswer, recorded: u16) -> bool {
     match answer {
         MaskAnswer::Is(m) => m == recorded,
         MaskAnswer::Refused(_) => false,
-    }
-}
-
-pub(crate) fn number_is(answer: NumberAnswer, recorded: u8) -> bool {
-    match answer {
-        NumberAnswer::Is(n) => n == recorded,
-        NumberAnswer::Refused(_) => false,
     }
 }
 
@@ -39,15 +30,6 @@ pub(crate) fn score_is(answer: ScoreAnswer, recorded: u8) -> bool {
             _ => false,
         },
         ScoreAnswer::Refused(_) => false,
-    }
-}
-
-// The colour of the stone, 0 where the cell is empty.
-pub(crate) fn stone_is(answer: StoneAnswer, colour: u8) -> bool {
-    match answer {
-        StoneAnswer::Empty => colour == 0,
-        StoneAnswer::Is(player) => player.number() == colour,
-        StoneAnswer::Refused(_) => false,
     }
 }
 

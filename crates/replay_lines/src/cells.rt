@@ -1,16 +1,17 @@
 // Records about a cell of a line: the rows through it, as masks and as lists in lent buffers; and the lists of a whole line.
 use super::answers::mask_is;
-use super::answers::number_is;
 use super::answers::segment_is;
-use super::fields::byte;
 use super::fields::colour_of;
-use super::fields::has;
 use super::fields::kind_of;
 use super::fields::line_of;
 use super::fields::mask_of;
-use super::tally::Tally;
 use line::Line;
 use line::SegmentAnswer;
+use masks::bit_at;
+use records::Tally;
+use records::byte;
+use records::count_bits;
+use records::number_is;
 use rules::NumberAnswer;
 ghost use Prim.Native.Nat.{_≤_};
 
@@ -39,7 +40,7 @@ fn replay_rows_on(t: Tally, line: Line, cell: u8, colour: u8, kind: u8, starts: 
 }
 
 fn is_listed(line: Line, cell: u8, colour: u8, kind: u8, starts: u16) -> bool {
-    let rows = count(starts);
+    let rows = count_bits(starts);
     let len = 3 * rows as usize;
     let mut out = [165u8; 48];
     let answer = line.rows_on(cell, colour, kind, &mut out[..len]);
@@ -54,7 +55,7 @@ fn is_listed(line: Line, cell: u8, colour: u8, kind: u8, starts: u16) -> bool {
 pub(crate) fn lists_rows(line: Line, colour: u8, kind: u8, starts: u16) -> bool {
     let mut out = [165u8; 48];
     let answer = line.rows(colour, kind, &mut out);
-    if number_is(answer, count(starts)) {
+    if number_is(answer, count_bits(starts)) {
         has_windows(line, starts, &out)
     } else {
         false
@@ -65,7 +66,7 @@ pub(crate) fn lists_rows(line: Line, colour: u8, kind: u8, starts: u16) -> bool 
 pub(crate) fn lists_segments(line: Line, starts: u16) -> bool {
     let mut out = [165u8; 48];
     let answer = line.segments(&mut out);
-    if number_is(answer, count(starts)) {
+    if number_is(answer, count_bits(starts)) {
         has_windows(line, starts, &out)
     } else {
         false
@@ -74,7 +75,7 @@ pub(crate) fn lists_segments(line: Line, starts: u16) -> bool {
 
 // 13, and the buffer keeps its bytes. No list has the byte 165: a start is below 16, and a segment's mask has seven bits.
 fn is_refused_short(line: Line, cell: u8, colour: u8, kind: u8, starts: u16) -> bool {
-    let rows = count(starts);
+    let rows = count_bits(starts);
     if rows == 0 {
         return false;
     }
@@ -85,13 +86,6 @@ fn is_refused_short(line: Line, cell: u8, colour: u8, kind: u8, starts: u16) -> 
         NumberAnswer::Is(_) => false,
         NumberAnswer::Refused(n) => { if n == 13 { is_all(&out, 165) } else { false } }
     }
-}
-
-// How many bits a mask has.
-fn count(mask: u16) -> u8
-    ensures { λ r. ⌜ r ≤ 16 ⌝ }
-{
-    u16::count_ones(mask) as u8
 }
 
 fn is_all(bytes: &[u8; 48], b: u8) -> bool {
@@ -110,7 +104,7 @@ fn has_windows(line: Line, starts: u16, bytes: &[u8; 48]) -> bool {
     let mut at = 0usize;
     let mut j = 0u8;
     while j < 16 {
-        if has(starts, j) {
+        if bit_at(starts, j) {
             if !is_window(line, j, bytes, at) {
                 return false;
             }

@@ -1,11 +1,8 @@
 // The fields of a record. Each has a fixed width, so each stands at a fixed place.
 use line::Line;
+use masks::bit_at;
+use records::byte;
 use records::hex;
-
-// The byte at a place.
-pub(crate) fn byte(record: &[u8], at: usize) -> u8 {
-    hex(record, at, 2) as u8
-}
 
 // The mask of a line at a place.
 pub(crate) fn mask(record: &[u8], at: usize) -> u16 {
@@ -35,15 +32,10 @@ pub(crate) fn line_of(record: &[u8]) -> Line {
     }
 }
 
-// Whether a mask has bit i.
-pub(crate) fn has(mask: u16, i: u8) -> bool {
-    if i < 16 { (mask >> i) & 1 == 1 } else { false }
-}
-
 // The number of the colour on cell i of a line, 0 for none.
 pub(crate) fn stone_of(line: Line, i: u8) -> u8 {
-    if has(line.blacks, i) {
+    if bit_at(line.blacks, i) {
         return 1;
     }
-    if has(line.whites, i) { 2 } else { 0 }
+    if bit_at(line.whites, i) { 2 } else { 0 }
 }

@@ -1,20 +1,20 @@
 // Records about a whole line: its rows and eyes, its stones, and the masks for a number of stones.
 use super::answers::line_is;
 use super::answers::mask_is;
-use super::answers::number_is;
-use super::answers::stone_is;
 use super::cells::lists_rows;
 use super::cells::lists_segments;
-use super::fields::byte;
 use super::fields::colour_of;
 use super::fields::kind_of;
 use super::fields::line_of;
 use super::fields::mask;
 use super::fields::mask_of;
 use super::fields::stone_of;
-use super::tally::Tally;
 use line::Line;
 use line::LineAnswer;
+use records::Tally;
+use records::byte;
+use records::number_is;
+use records::stone_is;
 
 // `l`: rows, eyes and bounds are recorded; the stones must be those of the record's own masks.
 pub(crate) fn replay_line(t: Tally, record: &[u8]) -> Tally {

@@ -1,23 +1,25 @@
-// Replays recorded answers about lines, read from standard input: asks each question again and holds the answer to the record. Writes a
-// line for each letter of record, below the first records of that letter that differ, and at last whether all agree.
+// Replays recorded answers about lines, read from standard input: asks each question again and holds the answer to the record. Writes what
+// `records` says of a replay.
 mod answers;
 mod cells;
 mod fields;
 mod lines;
 mod segments;
-mod tally;
 
 use cells::replay_cell;
 use libc::STDIN_FILENO;
-use libc::STDOUT_FILENO;
 use lines::replay_eyes;
 use lines::replay_line;
 use lines::replay_number;
+use records::Tally;
 use records::byte_at;
-use records::line_end;
+use records::line_at;
+use records::next_line;
+use records::say;
+use records::say_end;
+use records::say_tally;
+use records::shown;
 use segments::replay_segment;
-use tally::Tally;
-use tally::sum;
 ghost use mathlib.Core.Path.{_≡_};
 ghost use lib.ListN.{length};
 
@@ -39,70 +41,30 @@ fn room() -> [u8; 262144]
 }
 
 fn report(text: &[u8]) {
-    let mut differ = report_letter(0, text, b'l');
-    differ = report_letter(differ, text, b'c');
-    differ = report_letter(differ, text, b'q');
-    differ = report_letter(differ, text, b'z');
-    differ = report_letter(differ, text, b'g');
-    differ = report_unread(differ, text);
-    if differ == 0 {
-        say(b"all agree\n");
-    } else {
-        say_number(differ);
-        say(b" differ\n");
-    }
-}
-
-// The line of a letter, and how many answers differ with those before.
-fn report_letter(differ: u64, text: &[u8], letter: u8) -> u64 {
-    let t = replay_letter(text, letter);
-    say(&[letter, b' ']);
-    say_number(t.records);
-    say(b" records ");
-    say_number(t.answers);
-    say(b" answers ");
-    say_number(t.differ);
-    say(b" differ\n");
-    sum(differ, t.differ)
-}
-
-// Lines that are no record of a known letter count as differing, and have a line only where there are some.
-fn report_unread(differ: u64, text: &[u8]) -> u64 {
-    let t = replay_letter(text, b'?');
-    if t.records == 0 {
-        return differ;
-    }
-    say_number(t.records);
-    say(b" lines are no records\n");
-    sum(differ, t.differ)
+    let mut differ = say_tally(0, b'l', replay_letter(text, b'l'));
+    differ = say_tally(differ, b'c', replay_letter(text, b'c'));
+    differ = say_tally(differ, b'q', replay_letter(text, b'q'));
+    differ = say_tally(differ, b'z', replay_letter(text, b'z'));
+    differ = say_tally(differ, b'g', replay_letter(text, b'g'));
+    say_end(differ, replay_letter(text, b'?'));
 }
 
 fn replay_letter(text: &[u8], letter: u8) -> Tally {
     let mut t = Tally::new();
     let mut at = 0;
     while at < text.len() {
-        let end = line_end(text, at);
-        t = replay_record(t, &text[at..end], letter);
-        at = end + 1;
+        t = replay_record(t, line_at(text, at), letter);
+        at = next_line(text, at);
     }
     t
 }
 
-// A record of another letter is passed over; one of the first that differ is shown.
+// A record of another letter is passed over.
 fn replay_record(t: Tally, record: &[u8], letter: u8) -> Tally {
     if letter_of(record) != letter {
         return t;
     }
-    let after = replay(t.record(), record, letter);
-    if after.differ == t.differ {
-        return after;
-    }
-    if after.shown >= 3 {
-        return after;
-    }
-    say(record);
-    say(b"\n");
-    after.show()
+    shown(t, replay(t.record(), record, letter), record)
 }
 
 // A record that is not as long as its letter's are is not read, and differs.
@@ -123,10 +85,10 @@ fn replay(t: Tally, record: &[u8], letter: u8) -> Tally {
 // `#` starts a comment; `?` stands for what is no letter of a record.
 fn letter_of(record: &[u8]) -> u8 {
     let letter = byte_at(record, 0);
-    if letter == b'#' {
-        return letter;
+    match letter {
+        b'#' | b'l' | b'c' | b'q' | b'z' | b'g' => letter,
+        _ => b'?',
     }
-    if width_of(letter) == 0 { b'?' } else { letter }
 }
 
 // How many bytes a record of a letter has, 0 for any other byte.
@@ -139,12 +101,4 @@ fn width_of(letter: u8) -> usize {
         b'g' => 59,
         _ => 0,
     }
-}
-
-fn say(words: &[u8]) {
-    io::write_all(STDOUT_FILENO, words);
-}
-
-fn say_number(n: u64) {
-    io::print_decimal(STDOUT_FILENO, n);
 }

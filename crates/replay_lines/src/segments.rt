@@ -1,16 +1,16 @@
 // Records about a segment of a line.
-use super::answers::number_is;
 use super::answers::score_is;
 use super::answers::segment_is;
 use super::answers::test_is;
-use super::fields::byte;
 use super::fields::colour_of;
-use super::fields::has;
 use super::fields::kind_of;
 use super::fields::line_of;
-use super::tally::Tally;
 use line::Line;
 use line::SegmentAnswer;
+use masks::bit_at;
+use records::Tally;
+use records::byte;
+use records::number_is;
 use rules::MaskAnswer;
 use rules::TestAnswer;
 use segment::Before;
@@ -74,7 +74,7 @@ fn replay_kinds(before: Tally, line: Line, j: u8, prev: Before, segment: Segment
 fn starts_as(starts: MaskAnswer, j: u8, matched: TestAnswer) -> bool {
     match starts {
         MaskAnswer::Is(m) => match matched {
-            TestAnswer::Is(passed) => has(m, j) == passed,
+            TestAnswer::Is(passed) => bit_at(m, j) == passed,
             TestAnswer::Refused(_) => false,
         },
         MaskAnswer::Refused(_) => false,

@@ -88,8 +88,10 @@ pub fn text(files: &[(&'static str, String)]) -> String {
     )
     .expect("a String takes all");
     out.push_str(
-        "`lines.txt` is a link to the input of the program that replays it,\n\
-         `crates/replay_lines/stdin`: `rt` runs a program on its crate's own files.\n\n",
+        "`boards.txt`, `lines.txt` and `points.txt` are links to the inputs of the\n\
+         programs that replay them, `crates/replay_boards/stdin` and so on: `rt` runs a\n\
+         program on its crate's own files. The verdicts of `boards.txt`, its records\n\
+         `s`, `p` and `f`, are passed over by that program.\n\n",
     );
     out.push_str("## Counts\n\n| file | bytes | records |\n|---|---|---|\n");
     for (name, text) in files {

@@ -15,8 +15,8 @@ abbrev μ-loop : tie.MeasureT-loop
 loop-holds : tie.Need-loop-holds Inv-loop μ-loop
 loop-holds c = search needs
 
-has-requires : tie.Need-has-requires Inv-loop μ-loop
-has-requires c κs = search needs
+bit-at-requires : tie.Need-bit-at-requires Inv-loop μ-loop
+bit-at-requires c κs = search needs
 
 is-window-requires : tie.Need-is-window-requires Inv-loop μ-loop
 is-window-requires c κs = search needs
@@ -46,7 +46,7 @@ has-windows-spec =
     Inv-loop
     μ-loop
     loop-holds
-    has-requires
+    bit-at-requires
     is-window-requires
     returns
     add-at

@@ -6,8 +6,8 @@ use borrow.Author.Needs.{needs}
 use Rattle.replay_lines.proofs.cells.is_listed.Statement.{statement}
 use Rattle.replay_lines.proofs.cells.is_listed.Tie as tie
 
-count-requires : tie.Need-count-requires
-count-requires c κs = search needs
+count-bits-requires : tie.Need-count-bits-requires
+count-bits-requires c κs = search needs
 
 cast-len : tie.Need-cast-len
 cast-len c = search needs
@@ -40,7 +40,7 @@ pub is-listed-spec : {M : Type 1} → statement M
 is-listed-spec =
     tie.close
     (tie.spec
-    count-requires
+    count-bits-requires
     cast-len
     mul-len
     array-borrow-prefix-out

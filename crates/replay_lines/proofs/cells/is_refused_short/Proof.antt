@@ -6,8 +6,8 @@ use borrow.Author.Needs.{needs}
 use Rattle.replay_lines.proofs.cells.is_refused_short.Statement.{statement}
 use Rattle.replay_lines.proofs.cells.is_refused_short.Tie as tie
 
-count-requires : tie.Need-count-requires
-count-requires c κs = search needs
+count-bits-requires : tie.Need-count-bits-requires
+count-bits-requires c κs = search needs
 
 returns : tie.Need-returns
 returns c = search needs
@@ -52,7 +52,7 @@ pub is-refused-short-spec : {M : Type 1} → statement M
 is-refused-short-spec =
     tie.close
     (tie.spec
-    count-requires
+    count-bits-requires
     returns
     cast-len
     mul-len
