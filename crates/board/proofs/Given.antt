@@ -1,4 +1,4 @@
--- What is given back where nothing is refused: the board of the right cells, the right line, the right starts. Assumes nothing.
+-- What is given back where nothing is refused: the board of the right cells, the right starts. Assumes nothing.
 use mathlib.Core.Path.{_≡_, refl, ap, sym, _∙_}
 use mathlib.Core.Bool.{Bool, true, false, _&&_, cond}
 use mathlib.Core.Logic.{_⊎_, inl, inr}
@@ -12,7 +12,9 @@ use lib.ListN.{length, getD, take, drop, List·getD-eq-default}
 use lib.Seq.{take-all, drop-cons}
 use borrow.Author.Tests.{eqb-true, ltb-true, ltb-false}
 use Rattle.rules.specs.Numbers.{colourNo, opponentOf}
+use Rattle.rules.specs.Refusals.{colourRefusal, kindRefusal}
 use Rattle.rules.specs.Answers.{stoneAnswer}
+use Rattle.rules.specs.declared.answer.StoneAnswer.the-variants as stone
 use Rattle.rules.specs.Tools.{allBelow}
 use Rattle.rules.specs.Bit.{maskOf}
 use Rattle.rules.specs.Grid.{Change, play, rowsThrough, put, remove}
@@ -21,7 +23,7 @@ use Rattle.rules.specs.declared.Player.{Player}
 use Rattle.rules.specs.declared.Player.the-variants.{Black, White}
 use Rattle.rules.specs.declared.RowKind.{RowKind}
 use Rattle.rules.proofs.Logic.{T-true, decide, and-left, and-right, all-elim}
-use Rattle.rules.proofs.Refusals.{first-none, passed, pass}
+use Rattle.rules.proofs.Refusals.{first-none, passed, pass, given}
 use Rattle.rules.proofs.Lists.{length-tab, getD-tab, tab-cong}
 use Rattle.lent.specs.Lists.{zeros, listRefusal, listOut}
 use Rattle.point.specs.Points.{codeRefusal}
@@ -33,9 +35,11 @@ use Rattle.grid.proofs.Lines.{cells-zeros, cells-set, cells-linesOf, sound-line
 use Rattle.grid.proofs.Filled.{test-sound, sound-test}
 use Rattle.grid.proofs.RowStarts.{starts-in}
 use Rattle.board.specs.Boards.{cells, boardOf, movesCells, stonesCells, puts, boardRefusal, cellsRefusal, refusalAt}
-use Rattle.board.specs.Boards.{startsOf}
+use Rattle.board.specs.Boards.{refusalFor, rowsOnRefusal, startsOf}
 use Rattle.board.specs.Answers.{boardAnswer, linesAnswer, startsAnswer}
 use Rattle.board.specs.declared.board.Board.{Board}
+use Rattle.board.specs.declared.answer.BoardAnswer.{BoardAnswer}
+use Rattle.board.specs.declared.answer.StartsAnswer.{StartsAnswer}
 
 -- ---- refusals: what is known where none is given
 
@@ -46,6 +50,14 @@ sound-in b e = test-sound (b .lines) (passed (isSound (b .lines)) 8 e)
 pub at-in : (b : Board) (p : ℕ) → refusalAt b p ≡ 0 → Sound (b .lines) × (p < 225)
 unfolding refusalAt
 at-in b p e = let q = first-none (boardRefusal b) (codeRefusal p) e in (sound-in b (q .0), code-in p (q .1))
+
+pub for-in : (b : Board) (p colour : ℕ) → refusalFor b p colour ≡ 0 → Sound (b .lines) × (p < 225)
+unfolding refusalFor
+for-in b p colour e = at-in b p (first-none (refusalAt b p) (colourRefusal colour) e .0)
+
+pub rows-on-in : (b : Board) (p colour kind : ℕ) → rowsOnRefusal b p colour kind ≡ 0 → Sound (b .lines) × (p < 225)
+unfolding rowsOnRefusal
+rows-on-in b p colour kind e = for-in b p colour (first-none (refusalFor b p colour) (kindRefusal kind) e .0)
 
 pub cells-in : (cells : List ℕ) → cellsRefusal cells ≡ 0 → Cells cells
 unfolding cellsRefusal
@@ -102,29 +114,26 @@ turn-ok v cells ok =
 pub board-given : (refused : ℕ) (lines cells : List ℕ) → (refused ≡ 0 → lines ≡ linesOf cells)
     → linesAnswer refused lines ≡ boardAnswer refused cells
 unfolding linesAnswer boardAnswer boardOf
-board-given refused lines cells h = go (decide (eqb refused 0))
+board-given refused lines cells h =
+    given (answer 0) (answer refused (zeros 144)) refused lines (linesOf cells) h
+    ∙ ap (λ (l : List ℕ). cond (eqb refused 0) (answer 0 (linesOf cells)) (answer refused l)) lines-zeros
   where
-    go : (eqb refused 0 ≡ true) ⊎ (eqb refused 0 ≡ false) → linesAnswer refused lines ≡ boardAnswer refused cells
-    go (inl t) = rw (t, h (eqb-true refused 0 t))
-    go (inr t) = rw (t, lines-zeros)
+    answer : ℕ → List ℕ → BoardAnswer
+    answer n l = record { refused = n; board = record { lines = l } }
 
 pub stone-given : (refused v w : ℕ) → (refused ≡ 0 → v ≡ w)
     → stoneAnswer refused (eqb v 1) (eqb v 2) ≡ stoneAnswer refused (eqb w 1) (eqb w 2)
 unfolding stoneAnswer
-stone-given refused v w h = go (decide (eqb refused 0))
-  where
-    go : (eqb refused 0 ≡ true) ⊎ (eqb refused 0 ≡ false)
-        → stoneAnswer refused (eqb v 1) (eqb v 2) ≡ stoneAnswer refused (eqb w 1) (eqb w 2)
-    go (inl t) = rw (h (eqb-true refused 0 t))
-    go (inr t) = rw t
+stone-given refused v w h =
+    given (λ (n : ℕ). cond (eqb n 1) (stone.Is Black) (cond (eqb n 2) (stone.Is White) stone.Empty)) (stone.Refused refused) refused v w h
 
 pub starts-given : (refused : ℕ) (a b : List ℕ) → (refused ≡ 0 → a ≡ b) → startsAnswer refused a ≡ startsAnswer refused b
 unfolding startsAnswer
-starts-given refused a b h = go (decide (eqb refused 0))
+starts-given refused a b h =
+    given (answer 0) (answer refused (zeros 4)) refused a b h
   where
-    go : (eqb refused 0 ≡ true) ⊎ (eqb refused 0 ≡ false) → startsAnswer refused a ≡ startsAnswer refused b
-    go (inl t) = rw (t, h (eqb-true refused 0 t))
-    go (inr t) = rw t
+    answer : ℕ → List ℕ → StartsAnswer
+    answer n l = record { refused = n; starts = l }
 
 -- ---- the cells, written out
 

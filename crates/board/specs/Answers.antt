@@ -4,7 +4,7 @@ use mathlib.Core.List.{List}
 use Prim.Native.Nat.{ℕ}
 use lib.Dec.{eqb}
 use Rattle.lent.specs.Lists.{zeros}
-use Rattle.board.specs.Boards.{cells, boardOf}
+use Rattle.board.specs.Boards.{boardOf}
 use Rattle.board.specs.declared.answer.BoardAnswer.{BoardAnswer}
 use Rattle.board.specs.declared.answer.StartsAnswer.{StartsAnswer}
 

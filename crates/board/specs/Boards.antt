@@ -59,9 +59,12 @@ cellsRefusal cells = unless (eqb (length cells) 225 && allBelow 225 (λ p. leb (
 unfoldable pub codesRefusal : List ℕ → ℕ
 codesRefusal codes = unless (allBelow (length codes) (λ i. ltb (getD codes i 0) 225)) 8
 
--- of a question about a point; about a colour's rows of a kind through it
+-- of a question about a point; about a colour at a point; about a colour's rows of a kind through it
 unfoldable pub refusalAt : Board → ℕ → ℕ
 refusalAt b p = first (boardRefusal b) (codeRefusal p)
 
-unfoldable pub startsRefusal : Board → ℕ → ℕ → ℕ → ℕ
-startsRefusal b p colour kind = first (first (refusalAt b p) (colourRefusal colour)) (kindRefusal kind)
+unfoldable pub refusalFor : Board → ℕ → ℕ → ℕ
+refusalFor b p colour = first (refusalAt b p) (colourRefusal colour)
+
+unfoldable pub rowsOnRefusal : Board → ℕ → ℕ → ℕ → ℕ
+rowsOnRefusal b p colour kind = first (refusalFor b p colour) (kindRefusal kind)

@@ -1,5 +1,5 @@
-// What a board answers: a board or four masks of starts, or the number of the refusal alone, with an empty board or zeros
-// where a place must be filled.
+// What a board answers: a board or four masks of starts, or the number of the refusal alone, with an empty board or zeros where a place
+// must be filled.
 use super::board::Board;
 ghost use mathlib.Core.Path.{_≡_};
 ghost use Rattle.board.specs.Answers.{linesAnswer, startsAnswer};

@@ -26,15 +26,15 @@ ghost use mathlib.Core.Path.{_≡_};
 ghost use lib.Dec.{eqb};
 ghost use lib.ListN.{getD};
 ghost use Rattle.rules.specs.Numbers.{playerOf, kindOf};
-ghost use Rattle.rules.specs.Refusals.{first, colourRefusal};
+ghost use Rattle.rules.specs.Refusals.{first};
 ghost use Rattle.rules.specs.Answers.{numberAnswer, stoneAnswer};
 ghost use Rattle.rules.specs.Grid.{put, remove};
 ghost use Rattle.rules.specs.Views.{turnCells};
 ghost use Rattle.lent.specs.Lists.{zeros, listRefusal, listOut};
 ghost use Rattle.point.specs.Points.{viewRefusal};
 ghost use Rattle.board.specs.Answers.{boardAnswer, startsAnswer};
-ghost use Rattle.board.specs.Boards.{cells, boardOf, boardRefusal, refusalAt, cellsRefusal, codesRefusal, movesCells, stonesCells};
-ghost use Rattle.board.specs.Boards.{startsOf, startsRefusal};
+ghost use Rattle.board.specs.Boards.{cells, boardOf, boardRefusal, refusalAt, refusalFor, rowsOnRefusal};
+ghost use Rattle.board.specs.Boards.{cellsRefusal, codesRefusal, movesCells, stonesCells, startsOf};
 
 pub struct Board {
     pub lines: [u16; 144],
@@ -77,10 +77,10 @@ impl Board {
 
     // The board with a stone of the colour at a point, in place of what stood there.
     pub fn put(self, colour: u8, code: u8) -> BoardAnswer
-        ensures { λ r. ⌜ r ≡ boardAnswer (first (refusalAt self code) (colourRefusal colour)) (put (playerOf colour) (cells self) code) ⌝ }
+        ensures { λ r. ⌜ r ≡ boardAnswer (refusalFor self code colour) (put (playerOf colour) (cells self) code) ⌝ }
     {
         let mut lines = self.lines;
-        let refused = first(self.refusal_at(code), colour_refusal(colour));
+        let refused = self.refusal_for(code, colour);
         put_on(&mut lines, Player::of(colour), code);
         BoardAnswer::of(refused, lines)
     }
@@ -97,7 +97,7 @@ impl Board {
 
     // The same by the names that board.rs gives to what leaves the first board as it is: by value it always is.
     pub fn with_stone(self, colour: u8, code: u8) -> BoardAnswer
-        ensures { λ r. ⌜ r ≡ boardAnswer (first (refusalAt self code) (colourRefusal colour)) (put (playerOf colour) (cells self) code) ⌝ }
+        ensures { λ r. ⌜ r ≡ boardAnswer (refusalFor self code colour) (put (playerOf colour) (cells self) code) ⌝ }
     {
         self.put(colour, code)
     }
@@ -143,16 +143,12 @@ impl Board {
 
     // Where the colour's rows of a kind through a point start, a mask for each direction.
     pub fn row_starts_on(self, code: u8, colour: u8, kind: u8) -> StartsAnswer
-        ensures { λ r. ⌜ r ≡ startsAnswer (startsRefusal self code colour kind)
+        ensures { λ r. ⌜ r ≡ startsAnswer (rowsOnRefusal self code colour kind)
             (startsOf (playerOf colour) (kindOf kind) (cells self) code) ⌝ }
     {
         let lines = self.lines;
         let starts = grid::row_starts_on(&lines, code, Player::of(colour), RowKind::of(kind));
-        let refused = first(
-            first(self.refusal_at(code), colour_refusal(colour)),
-            kind_refusal(kind),
-        );
-        StartsAnswer::of(refused, starts)
+        StartsAnswer::of(self.rows_on_refusal(code, colour, kind), starts)
     }
 
     // 9 for a board that is not sound.
@@ -168,5 +164,18 @@ impl Board {
         ensures { λ r. ⌜ r ≡ refusalAt self code ⌝ }
     {
         first(self.refusal(), code_refusal(code))
+    }
+    // .. then 12 for a number that is no colour's.
+    pub fn refusal_for(self, code: u8, colour: u8) -> u8
+        ensures { λ r. ⌜ r ≡ refusalFor self code colour ⌝ }
+    {
+        first(self.refusal_at(code), colour_refusal(colour))
+    }
+
+    // .. then 12 for a row kind over 7.
+    pub fn rows_on_refusal(self, code: u8, colour: u8, kind: u8) -> u8
+        ensures { λ r. ⌜ r ≡ rowsOnRefusal self code colour kind ⌝ }
+    {
+        first(self.refusal_for(code, colour), kind_refusal(kind))
     }
 }

@@ -64,7 +64,7 @@ starts-bits r k l p d s hd hp =
     ap bit (starts-in r k l p d s hd hp)
     ∙ bits-of 16 (rowsThrough r k (cellsOf l) p d)
     (λ j h. not-false (not-intro (rowsThrough r k (cellsOf l) p d j) (λ t.
-    let b = start-lt r k (cellsOf l) p d j hd hp t in absurd (omega arith))))
+    let b = start-lt r k (cellsOf l) p d j t in absurd (omega arith))))
 
 pub starts-on : (l : List ℕ) (p : ℕ) (r : Player) (k : RowKind) (d : ℕ) → d < 4 → getD (startsOn l p r k) d 0 ≡ startsIn l p r k d
 unfolding startsOn

@@ -1,16 +1,16 @@
 -- What is copied where nothing is refused: the line of the right cells. Assumes nothing.
 use mathlib.Core.Path.{_≡_, refl, ap, _∙_}
-use mathlib.Core.Bool.{Bool, true, false}
+use mathlib.Core.Bool.{Bool, true, false, cond}
 use mathlib.Core.Logic.{_⊎_, inl, inr}
 use mathlib.Core.List.{List}
 use Prim.Native.Nat.{ℕ, _<_}
 use lib.Dec.{eqb}
-use borrow.Author.Tests.{eqb-true, ne-eqb, lt-ltb}
+use borrow.Author.Tests.{ne-eqb, lt-ltb}
 use Rattle.rules.specs.Refusals.{first}
 use Rattle.rules.specs.Point.{lineNo, lineCount, stored, storedAt, keyOf, keyAt, keySize}
 use Rattle.rules.specs.declared.Player.the-variants.{Black, White}
 use Rattle.rules.proofs.Logic.{true-T, decide}
-use Rattle.rules.proofs.Refusals.{first-none}
+use Rattle.rules.proofs.Refusals.{first-none, given}
 use Rattle.rules.proofs.Address.{line-here, key-lt, key-dir, key-no}
 use Rattle.point.specs.Answers.{keyAnswer}
 use Rattle.point.specs.Places.{hasPlace, placeOf}
@@ -33,13 +33,13 @@ use Rattle.lines.specs.declared.answer.StoredLineAnswer.the-variants as 
 pub line-given : (refused : ℕ) (s t : Bool) (a b : Line) → (refused ≡ 0 → s ≡ t) → (refused ≡ 0 → t ≡ true → a ≡ b)
     → storedLine refused s a ≡ storedLine refused t b
 unfolding storedLine
-line-given refused s t a b h g = go (decide (eqb refused 0)) (decide t)
+line-given refused s t a b h g =
+    given (λ (x : StoredLineAnswer). x) (line.Refused refused) refused (cond s (line.Is a) line.None) (cond t (line.Is b) line.None)
+    (λ e. ap (λ (x : Bool). cond x (line.Is a) line.None) (h e) ∙ same t (g e))
   where
-    go : (eqb refused 0 ≡ true) ⊎ (eqb refused 0 ≡ false) → (t ≡ true) ⊎ (t ≡ false)
-        → storedLine refused s a ≡ storedLine refused t b
-    go (inl e) (inl u) = rw (e, h (eqb-true refused 0 e), g (eqb-true refused 0 e) u)
-    go (inl e) (inr u) = rw (e, h (eqb-true refused 0 e), u)
-    go (inr e) u = rw e
+    same : (t : Bool) → (t ≡ true → a ≡ b) → cond t (line.Is a) line.None ≡ cond t (line.Is b) line.None
+    same true g = ap line.Is (g refl)
+    same false g = refl
 
 -- ---- the line of a stored key
 

@@ -17,7 +17,7 @@ use Rattle.board.proofs.Given.{sound-in, at-in}
 use Rattle.lists.specs.declared.answer.CountAnswer.{CountAnswer}
 use Rattle.lists.specs.declared.answer.CountAnswer.the-variants as count
 use Rattle.lists.specs.Answers.{countAnswer, counted}
-use Rattle.lists.specs.Lists.{stonesRefusal, nearRefusal, rowsRefusal, eyesRefusal, rowsOnRefusal}
+use Rattle.lists.specs.Lists.{stonesRefusal, nearRefusal, rowsRefusal}
 
 -- the same list by another name
 pub held-as : (room : ℕ) {l m buf : List ℕ} {n : ℕ} → Held room l buf n → l ≡ m → Held room m buf n
@@ -65,11 +65,3 @@ module _ (b : Board) where
   unfolding rowsRefusal stonesRefusal
   rows-open colour kind e =
       sound-in b (first-none (boardRefusal b) (colourRefusal colour) (first-none (stonesRefusal b colour) (kindRefusal kind) e .0) .0)
-
-  pub eyes-open : (p colour : ℕ) → eyesRefusal b p colour ≡ 0 → Sound (b .lines) × (p < 225)
-  unfolding eyesRefusal
-  eyes-open p colour e = at-in b p (first-none (refusalAt b p) (colourRefusal colour) e .0)
-
-  pub rows-on-open : (p colour kind : ℕ) → rowsOnRefusal b p colour kind ≡ 0 → Sound (b .lines) × (p < 225)
-  unfolding rowsOnRefusal
-  rows-on-open p colour kind e = eyes-open p colour (first-none (eyesRefusal b p colour) (kindRefusal kind) e .0)

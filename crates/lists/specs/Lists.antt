@@ -56,12 +56,6 @@ nearRefusal b p n = first (refusalAt b p) (unless (leb n 14) 12)
 unfoldable pub rowsRefusal : Board → ℕ → ℕ → ℕ
 rowsRefusal b colour kind = first (stonesRefusal b colour) (kindRefusal kind)
 
-unfoldable pub eyesRefusal : Board → ℕ → ℕ → ℕ
-eyesRefusal b p colour = first (refusalAt b p) (colourRefusal colour)
-
-unfoldable pub rowsOnRefusal : Board → ℕ → ℕ → ℕ → ℕ
-rowsOnRefusal b p colour kind = first (eyesRefusal b p colour) (kindRefusal kind)
-
 -- "10 .. a cell not on its line; .. a line number or key that does not exist"
 abbrev pub maskCell : ℕ → ℕ → ℕ → ℕ → Bool
 maskCell size j mask k = not (bit mask k) || ltb (j + k) size

@@ -4,10 +4,8 @@ use super::codes::four_eyes;
 use super::codes::mask_points;
 use super::codes::near_points;
 use super::codes::points_with;
-use super::refusal::eyes_refusal;
 use super::refusal::mask_refusal;
 use super::refusal::near_refusal;
-use super::refusal::rows_on_refusal;
 use super::refusal::rows_refusal;
 use super::refusal::stones_refusal;
 use super::row_bytes::all_rows;
@@ -22,8 +20,8 @@ ghost use lib.ListN.{take};
 ghost use Rattle.rules.specs.Numbers.{playerOf, kindOf};
 ghost use Rattle.rules.specs.Grid.{stonesOf, emptyPoints, neighbours, rowsOf, rowsOnPoint, fourEyes};
 ghost use Rattle.lent.specs.Lists.{listRefusal, listOut};
-ghost use Rattle.board.specs.Boards.{cells, boardRefusal};
-ghost use Rattle.lists.specs.Lists.{stonesRefusal, nearRefusal, rowsRefusal, rowsOnRefusal, eyesRefusal, maskRefusal, maskPoints};
+ghost use Rattle.board.specs.Boards.{cells, boardRefusal, refusalFor, rowsOnRefusal};
+ghost use Rattle.lists.specs.Lists.{stonesRefusal, nearRefusal, rowsRefusal, maskRefusal, maskPoints};
 ghost use Rattle.lists.specs.Answers.{countAnswer, counted};
 
 // The colour's stones, as codes, ascending.
@@ -99,7 +97,7 @@ pub fn rows_on(board: Board, code: u8, colour: u8, kind: u8, out: &mut [u8]) -> 
         × (now (out .exit) ≡ listOut (rowsOnRefusal board code colour kind) (now (out .entry))
         (rowsOnPoint (playerOf colour) (kindOf kind) (cells board) code)) ⌝ }
 {
-    let refused = rows_on_refusal(board, code, colour, kind);
+    let refused = board.rows_on_refusal(code, colour, kind);
     if refused != 0 {
         return CountAnswer::Refused(refused);
     }
@@ -111,12 +109,12 @@ pub fn rows_on(board: Board, code: u8, colour: u8, kind: u8, out: &mut [u8]) -> 
 
 // The points where the colour makes a five of a four through a point, line by line, each cell once a line, ascending.
 pub fn four_eyes_on(board: Board, code: u8, colour: u8, out: &mut [u8]) -> CountAnswer
-    ensures { λ r. ⌜ (r ≡ counted 1 (eyesRefusal board code colour) (now (out .entry))
+    ensures { λ r. ⌜ (r ≡ counted 1 (refusalFor board code colour) (now (out .entry))
         (fourEyes (playerOf colour) (cells board) code))
-        × (now (out .exit) ≡ listOut (eyesRefusal board code colour) (now (out .entry))
+        × (now (out .exit) ≡ listOut (refusalFor board code colour) (now (out .entry))
         (fourEyes (playerOf colour) (cells board) code)) ⌝ }
 {
-    let refused = eyes_refusal(board, code, colour);
+    let refused = board.refusal_for(code, colour);
     if refused != 0 {
         return CountAnswer::Refused(refused);
     }

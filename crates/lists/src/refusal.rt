@@ -10,7 +10,7 @@ use rules::unless;
 ghost use mathlib.Core.Path.{_≡_};
 ghost use mathlib.Core.Bool.{_&&_};
 ghost use Rattle.rules.specs.Tools.{allBelow};
-ghost use Rattle.lists.specs.Lists.{stonesRefusal, nearRefusal, rowsRefusal, rowsOnRefusal, eyesRefusal, maskCell, maskRefusal};
+ghost use Rattle.lists.specs.Lists.{stonesRefusal, nearRefusal, rowsRefusal, maskCell, maskRefusal};
 
 // The stones of a colour.
 pub(crate) fn stones_refusal(board: Board, colour: u8) -> u8
@@ -31,20 +31,6 @@ pub(crate) fn rows_refusal(board: Board, colour: u8, kind: u8) -> u8
     ensures { λ r. ⌜ r ≡ rowsRefusal board colour kind ⌝ }
 {
     first(stones_refusal(board, colour), kind_refusal(kind))
-}
-
-// The eyes of a colour's fours through a point.
-pub(crate) fn eyes_refusal(board: Board, code: u8, colour: u8) -> u8
-    ensures { λ r. ⌜ r ≡ eyesRefusal board code colour ⌝ }
-{
-    first(board.refusal_at(code), colour_refusal(colour))
-}
-
-// A colour's rows of a kind through a point.
-pub(crate) fn rows_on_refusal(board: Board, code: u8, colour: u8, kind: u8) -> u8
-    ensures { λ r. ⌜ r ≡ rowsOnRefusal board code colour kind ⌝ }
-{
-    first(eyes_refusal(board, code, colour), kind_refusal(kind))
 }
 
 // The points of a mask of cells: 10 for the key, then 10 for a cell that is not on its line.

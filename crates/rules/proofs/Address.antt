@@ -1,4 +1,4 @@
--- The laws of points, lines, keys and views, each a test that antt computes at every place. Assumes nothing.
+-- The laws of points, lines and keys, most of them tests that antt computes at every place. Assumes nothing.
 use mathlib.Core.Path.{_≡_, refl}
 use mathlib.Core.Bool.{Bool, true, false, Bool·beq, _&&_, cond}
 use Prim.Native.Nat.{ℕ, zero, suc, _+_, _-_, _≤_, _<_}

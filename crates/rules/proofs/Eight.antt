@@ -211,7 +211,7 @@ module _ (v : ℕ) (A B : List ℕ) (p : ℕ) (hv : v < 8) (t : Turned v A B) (h
   where
     lands : (d r : ℕ) → d < 4 → T (s′ (turnDir v d) r) → r < 16
     lands d r hd u =
-        start-lt Black k B (turn v p) (turnDir v d) r (dir-lt v d hv hd) (turn-lt v p hv hp) (are′ (turnDir v d) r (dir-lt v d hv hd) u)
+        start-lt Black k B (turn v p) (turnDir v d) r (are′ (turnDir v d) r (dir-lt v d hv hd) u)
 
     goes : (d j : ℕ) → d < 4 → T (s d j) → (r : ℕ) × Moved (flips v d) (sizeAt d p) (span k) j r
     goes d j hd u =

@@ -45,7 +45,7 @@ module _ (cells : List ℕ) (p : ℕ) (hp : p < 225) (ask ask′ : Ask) (same : 
 
   real-start : (d j : ℕ) → d < 4 → T (realThrees ask cells p d j) → j < 16
   unfolding realThrees
-  real-start d j hd u = start-lt Black Three cells p d j hd hp (and-left (rowsThrough Black Three cells p d j) (isReal ask cells p d j) u)
+  real-start d j hd u = start-lt Black Three cells p d j (and-left (rowsThrough Black Three cells p d j) (isReal ask cells p d j) u)
 
   real-carried : Carried (realThrees ask cells p) (realThrees ask′ cells p)
   real-carried =

@@ -1,4 +1,4 @@
--- Refusals: what no refusal says of the tests behind it. Assumes nothing.
+-- Refusals: what no refusal says of the tests behind it, and that an answer is told by its refusal and its value. Assumes nothing.
 use mathlib.Core.Path.{_≡_, refl, sym, ap, _∙_}
 use mathlib.Core.Bool.{Bool, true, false, cond}
 use Prim.Native.Nat.{ℕ, suc}
@@ -31,3 +31,12 @@ pub pass : (b : Bool) (n : ℕ) → T b → unless b n ≡ 0
 unfolding unless
 pass true n t = refl
 pass false n t = absurd t
+
+-- an answer looks at its value only where nothing is refused
+pub given : {A B : Type 0} (f : A → B) (z : B) (refused : ℕ) (a b : A) → (refused ≡ 0 → a ≡ b)
+    → cond (eqb refused 0) (f a) z ≡ cond (eqb refused 0) (f b) z
+given f z refused a b h = go (eqb refused 0) refl
+  where
+    go : (t : Bool) → eqb refused 0 ≡ t → cond t (f a) z ≡ cond t (f b) z
+    go true e = ap f (h (eqb-true refused 0 e))
+    go false e = refl

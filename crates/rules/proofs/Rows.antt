@@ -42,8 +42,8 @@ pub through-inside : (r : Player) (k : RowKind) (cells : List ℕ) (p d j : ℕ)
     → j + 5 ≤ lineSize d (lineNo d p)
 through-inside r k cells p d j t = rowOn-inside r k cells d (lineNo d p) j (through-row r k cells p d j t)
 
-pub start-lt : (r : Player) (k : RowKind) (cells : List ℕ) (p d j : ℕ) → d < 4 → p < 225 → T (rowsThrough r k cells p d j) → j < 16
-start-lt r k cells p d j hd hp t =
+pub start-lt : (r : Player) (k : RowKind) (cells : List ℕ) (p d j : ℕ) → T (rowsThrough r k cells p d j) → j < 16
+start-lt r k cells p d j t =
     let a = through-inside r k cells p d j t in
     let b = size-le d (lineNo d p) in
     omega arith

@@ -5,15 +5,16 @@ use borrow.Author.Needs.{needs}
 use Rattle.rules.specs.Grid.{fourEyes}
 use Rattle.rules.specs.declared.Player.{Player}
 use Rattle.board.specs.Boards.{cells}
-use Rattle.lists.proofs.Ends.{held-as, held-le, handed, turned-down, eyes-open}
+use Rattle.board.proofs.Given.{for-in}
+use Rattle.lists.proofs.Ends.{held-as, held-le, handed, turned-down}
 use Rattle.lists.proofs.front.four_eyes_on.Statement.{statement}
 use Rattle.lists.proofs.front.four_eyes_on.Tie as tie
 
-eyes-refusal-requires : tie.Need-eyes-refusal-requires
-eyes-refusal-requires c κs = search needs
+refusal-for-requires : tie.Need-refusal-for-requires
+refusal-for-requires c κs = search needs
 
 returns : tie.Need-returns
-returns c = turned-down 1 _ _ (c .before .eyes-refusal .ensures) (c .if1 .taken)
+returns c = turned-down 1 _ _ (c .before .refusal-for .ensures) (c .if1 .taken)
 
 of-requires : tie.Need-of-requires
 of-requires c κs = search needs
@@ -22,7 +23,7 @@ four-eyes-requires : tie.Need-four-eyes-requires
 four-eyes-requires c κs =
     let s = c .before .before .before in
     let a = s .before .before .before .args in
-    eyes-open (a .board) (a .code) (a .colour) (sym (s .before .eyes-refusal .ensures) ∙ s .if1 .left)
+    for-in (a .board) (a .code) (a .colour) (sym (s .before .refusal-for .ensures) ∙ s .if1 .left)
 
 slice-aggregate-hand-out : tie.Need-slice-aggregate-hand-out
 slice-aggregate-hand-out c = search needs
@@ -37,7 +38,7 @@ returns-2 : tie.Need-returns-2
 returns-2 c =
     let s = c .before .before .before .before .before .before in
     let a = s .before .before .before .before .before .before .before .args in
-    handed 1 _ _ (s .before .before .before .before .before .eyes-refusal .ensures) 225
+    handed 1 _ _ (s .before .before .before .before .before .refusal-for .ensures) 225
     (held-as 225 (s .four-eyes .ensures)
     (ap (λ (r : Player). fourEyes r (cells (a .board)) (a .code)) (s .before .of .ensures)))
     (c .before .before .hand-out .ensures)
@@ -46,7 +47,7 @@ pub four-eyes-on-spec : {M : Type 1} → statement M
 four-eyes-on-spec =
     tie.close
     (tie.spec
-    eyes-refusal-requires
+    refusal-for-requires
     returns
     of-requires
     four-eyes-requires

@@ -6,7 +6,8 @@ use Rattle.rules.specs.Grid.{rowsOnPoint}
 use Rattle.rules.specs.declared.Player.{Player}
 use Rattle.rules.specs.declared.RowKind.{RowKind}
 use Rattle.board.specs.Boards.{cells}
-use Rattle.lists.proofs.Ends.{held-as, held-le, handed, turned-down, rows-on-open}
+use Rattle.board.proofs.Given.{rows-on-in}
+use Rattle.lists.proofs.Ends.{held-as, held-le, handed, turned-down}
 use Rattle.lists.proofs.front.rows_on.Statement.{statement}
 use Rattle.lists.proofs.front.rows_on.Tie as tie
 
@@ -26,7 +27,7 @@ rows-through-requires : tie.Need-rows-through-requires
 rows-through-requires c κs =
     let s = c .before .before .before .before in
     let a = s .before .before .before .args in
-    rows-on-open (a .board) (a .code) (a .colour) (a .kind) (sym (s .before .rows-on-refusal .ensures) ∙ s .if1 .left)
+    rows-on-in (a .board) (a .code) (a .colour) (a .kind) (sym (s .before .rows-on-refusal .ensures) ∙ s .if1 .left)
 
 slice-aggregate-hand-out : tie.Need-slice-aggregate-hand-out
 slice-aggregate-hand-out c = search needs

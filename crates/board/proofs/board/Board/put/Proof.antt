@@ -1,19 +1,12 @@
 -- `board::board::Board::put` meets its contract: on sound lines a put sets the cell. Assumes nothing.
-use Rattle.rules.proofs.Refusals.{first-none}
 use Rattle.grid.proofs.Lines.{write-sound-lines}
-use Rattle.board.proofs.Given.{board-given, at-in}
+use Rattle.board.proofs.Given.{board-given, for-in}
 use borrow.Author.Needs.{needs}
 use Rattle.board.proofs.board.Board.put.Statement.{statement}
 use Rattle.board.proofs.board.Board.put.Tie as tie
 
-refusal-at-requires : tie.Need-refusal-at-requires
-refusal-at-requires c κs = search needs
-
-colour-refusal-requires : tie.Need-colour-refusal-requires
-colour-refusal-requires c κs = search needs
-
-first-requires : tie.Need-first-requires
-first-requires c κs = search needs
+refusal-for-requires : tie.Need-refusal-for-requires
+refusal-for-requires c κs = search needs
 
 of-requires : tie.Need-of-requires
 of-requires c κs = search needs
@@ -26,26 +19,20 @@ of-requires-2 c κs = search needs
 
 returns : tie.Need-returns
 returns c =
-    let s = c .before .before .before .before .before .before .before in
-    let b = s .before .args .self in
-    let p = s .before .args .code in
+    let a = c .before .before .before .before .before .before .args in
     simp (
       c .of2 .ensures,
       c .before .put-on .ensures,
       c .before .before .of .ensures,
-      c .before .before .before .before .first .ensures,
-      c .before .before .before .before .before .colour-refusal .ensures,
-      c .before .before .before .before .before .before .refusal-at .ensures,
+      c .before .before .before .before .refusal-for .ensures,
     )
-    (board-given _ _ _ (λ e. write-sound-lines (b .lines) p _ (at-in b p (first-none _ _ e .0) .0)))
+    (board-given _ _ _ (λ e. write-sound-lines (a .self .lines) (a .code) _ (for-in (a .self) (a .code) (a .colour) e .0)))
 
 pub put-spec : {M : Type 1} → statement M
 put-spec =
     tie.close
     (tie.spec
-    refusal-at-requires
-    colour-refusal-requires
-    first-requires
+    refusal-for-requires
     of-requires
     put-on-requires
     of-requires-2
