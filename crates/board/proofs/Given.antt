@@ -10,7 +10,7 @@ use native.Mathlib.Omega.{arith}
 use lib.Dec.{eqb, leb, ltb, leb→le}
 use lib.ListN.{length, getD, take, drop, List·getD-eq-default}
 use lib.Seq.{take-all, drop-cons}
-use borrow.Author.Tests.{eqb-true, ltb-true, ltb-false}
+use borrow.Author.Tests.{eqb-true, lt-ltb, ltb-true, ltb-false}
 use Rattle.rules.specs.Numbers.{colourNo, opponentOf}
 use Rattle.rules.specs.Refusals.{colourRefusal, kindRefusal}
 use Rattle.rules.specs.Answers.{stoneAnswer}
@@ -22,8 +22,8 @@ use Rattle.rules.specs.Views.{turn, undo, turnCells}
 use Rattle.rules.specs.declared.Player.{Player}
 use Rattle.rules.specs.declared.Player.the-variants.{Black, White}
 use Rattle.rules.specs.declared.RowKind.{RowKind}
-use Rattle.rules.proofs.Logic.{T-true, decide, and-left, and-right, all-elim}
-use Rattle.rules.proofs.Refusals.{first-none, passed, pass, given}
+use Rattle.rules.proofs.Logic.{T-true, true-T, decide, and-left, and-right, all-elim}
+use Rattle.rules.proofs.Refusals.{first-none, none-first, passed, pass, given}
 use Rattle.rules.proofs.Lists.{length-tab, getD-tab, tab-cong}
 use Rattle.lent.specs.Lists.{zeros, listRefusal, listOut}
 use Rattle.point.specs.Points.{codeRefusal}
@@ -50,6 +50,11 @@ sound-in b e = test-sound (b .lines) (passed (isSound (b .lines)) 8 e)
 pub at-in : (b : Board) (p : ℕ) → refusalAt b p ≡ 0 → Sound (b .lines) × (p < 225)
 unfolding refusalAt
 at-in b p e = let q = first-none (boardRefusal b) (codeRefusal p) e in (sound-in b (q .0), code-in p (q .1))
+
+-- a point of a sound board is not refused
+pub at-point : (b : Board) (p : ℕ) → boardRefusal b ≡ 0 → p < 225 → refusalAt b p ≡ 0
+unfolding refusalAt codeRefusal
+at-point b p e hp = none-first (boardRefusal b) (codeRefusal p) e (pass (ltb p 225) 8 (true-T (lt-ltb p 225 hp)))
 
 pub for-in : (b : Board) (p colour : ℕ) → refusalFor b p colour ≡ 0 → Sound (b .lines) × (p < 225)
 unfolding refusalFor

@@ -382,6 +382,16 @@ cells-cellsOf l =
       small = λ p hp. rw (sym (cell-of l p hp)) (small-cond (bit (getD l (xOf p) 0) (yOf p)) (bit (getD l (72 + xOf p) 0) (yOf p)));
     }
 
+-- a cell that is read is empty where it is 0
+none-zero : (v : ℕ) → v ≤ 2 → eqb v 0 ≡ isEmpty v
+none-zero zero h = refl
+none-zero (suc zero) h = refl
+none-zero (suc (suc zero)) h = refl
+none-zero (suc (suc (suc v))) h = absurd (omega arith)
+
+pub empty-cell : (l : List ℕ) (p : ℕ) → p < 225 → eqb (getD (cellsOf l) p 0) 0 ≡ isEmpty (getD (cellsOf l) p 0)
+empty-cell l p hp = none-zero (getD (cellsOf l) p 0) (cells-cellsOf l .small p hp)
+
 pub cells-set : (cells : List ℕ) (p v : ℕ) → Cells cells → v ≤ 2 → Cells (set cells p v)
 cells-set cells p v ok h = record { long = length-set cells p v ∙ ok .long; small = λ q hq. go q hq (ℕ-discrete q p) }
   where

@@ -1,18 +1,22 @@
 -- The laws of gathered lists and of the buffers that hold them. A loop that collects keeps `Wrote`, and a turn of it is `gather-step`;
 -- `gather-end` says what it leaves, and `list-end` what `write_out` then gives. Assumes nothing.
-use mathlib.Core.Path.{_≡_, refl, ap, ap₂, sym, _∙_}
+use mathlib.Core.Path.{_≡_, refl, ap, ap₂, sym, subst, _∙_}
 use mathlib.Core.Bool.{Bool, true, false}
 use mathlib.Core.List.{List, [], _∷_, _++_, append-nil}
-use Prim.Native.Nat.{ℕ, zero, suc, _+_, _-_, _*_, _≤_, _<_, min}
+use Prim.Native.Nat.{ℕ, zero, suc, _+_, _-_, _*_, _/_, _≤_, _<_, min}
 use native.Mathlib.Nat.{add-zero}
 use native.Mathlib.Numerals.{add-one, unary-clauses}
 use native.Mathlib.Omega.{arith}
 use lib.Dec.{leb}
 use lib.ListN.{length, getD, take, drop, set, replicate, length-append, length-replicate}
 use lib.Seq.{take-at, take-suc, length-take-le, sets, sets-eq, length-sets}
-use borrow.Author.Tests.{le-leb}
+use borrow.Author.Tests.{le-leb, ne-eqb}
+use Rattle.rules.specs.Refusals.{first}
+use Rattle.rules.specs.Answers.{countAnswer}
+use Rattle.rules.specs.declared.answer.CountAnswer.{CountAnswer}
+use Rattle.rules.specs.declared.answer.CountAnswer.the-variants as count
 use Rattle.rules.specs.Tools.{gather, only}
-use Rattle.lent.specs.Lists.{listRefusal, listOut, laid, keeps, keptTo, keptIn, zeros, padded, Wrote, Held}
+use Rattle.lent.specs.Lists.{listRefusal, listOut, counted, laid, keeps, keptTo, keptIn, zeros, padded, Wrote, Held}
 
 -- ---- gathered lists
 
@@ -34,6 +38,13 @@ gather-length k (suc n) f h =
 pub only-length : (b : Bool) (l : List ℕ) → length (only b l) ≤ length l
 only-length true l = omega arith
 only-length false l = omega arith
+
+-- at most k bytes for each number that passes
+pub short : (k : ℕ) (on : ℕ → Bool) (item : ℕ → List ℕ) → ((i : ℕ) → length (item i) ≤ k) → (n : ℕ)
+    → length (gather n (λ i. only (on i) (item i))) ≤ n * k
+short k on item h n =
+    gather-length k n (λ i. only (on i) (item i))
+    (λ i l. let a = only-length (on i) (item i) in let b = h i in omega arith)
 
 -- nothing at any number
 pub gather-nothing : (n : ℕ) (f : ℕ → List ℕ) → ((i : ℕ) → f i ≡ []) → gather n f ≡ []
@@ -191,6 +202,38 @@ take-least (suc n) (a ∷ l) = simp unary-clauses (ap (λ (x : List ℕ). a ∷ 
 -- what is held is read back
 pub held-take : (size : ℕ) {a from : List ℕ} {len : ℕ} → Held size a from len → take len from ≡ a
 held-take size {a} h = ap₂ {C = List ℕ} take (h .count) (h .buffer) ∙ take-padded size a
+
+-- the same list by another name
+pub held-as : (room : ℕ) {l m buf : List ℕ} {n : ℕ} → Held room l buf n → l ≡ m → Held room m buf n
+held-as room {buf = buf} {n = n} h e = subst (λ (x : List ℕ). Held room x buf n) e h
+
+-- a list that is held is no longer than its buffer
+pub held-le : (room : ℕ) {l buf : List ℕ} {n : ℕ} → Held room l buf n → length buf ≡ room → n ≤ room
+unfolding padded
+held-le room {l} h e =
+    let a = ap length (h .buffer) ∙ length-append l (zeros (room - length l)) in
+    let z = length-zeros (room - length l) in
+    let n = h .count in
+    omega arith
+
+-- a list that is held is handed out, with its count, or what was refused is given back alone; `told` is what the refusal means
+module _ (size : ℕ) {refused told : ℕ} (out a : List ℕ) (e : refused ≡ told) where
+  pub handed : (room : ℕ) {from : List ℕ} {len : ℕ} {r : CountAnswer} {out′ : List ℕ} → Held room a from len
+      → (r ≡ countAnswer (listRefusal refused out (take len from)) (len / size)) × (out′ ≡ listOut refused out (take len from))
+      → (r ≡ counted size told out a) × (out′ ≡ listOut told out a)
+  unfolding counted
+  handed room {from} {len} h k =
+      let held = held-take room h in (
+        k .0 ∙ ap₂ (λ (x : List ℕ) (n : ℕ). countAnswer (listRefusal refused out x) (n / size)) held (h .count)
+            ∙ ap (λ (n : ℕ). countAnswer (listRefusal n out a) (length a / size)) e,
+        k .1 ∙ ap₂ (λ (n : ℕ) (x : List ℕ). listOut n out x) e held,
+      )
+
+  pub turned-down : (refused ≡ 0 → ⊥) → (count.Refused refused ≡ counted size told out a) × (out ≡ listOut told out a)
+  unfolding counted countAnswer listOut listRefusal first
+  turned-down n =
+      let z = ne-eqb told 0 (λ t. n (e ∙ t)) in
+      (ap count.Refused e ∙ rw (z, z), rw (z, z))
 
 -- the end of a function that lists: `write_out` was given a buffer that holds a
 pub list-end : (size refused : ℕ) (out a from : List ℕ) (len r : ℕ) (out′ : List ℕ) → Held size a from len

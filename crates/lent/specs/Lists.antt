@@ -2,11 +2,13 @@
 use mathlib.Core.Path.{_≡_}
 use mathlib.Core.Bool.{Bool, _&&_, cond}
 use mathlib.Core.List.{List, _++_}
-use Prim.Native.Nat.{ℕ, _+_, _-_}
+use Prim.Native.Nat.{ℕ, _+_, _-_, _/_}
 use lib.Dec.{leb, eqb}
 use lib.ListN.{length, drop, replicate}
 use lib.Seq.{sets}
 use Rattle.rules.specs.Refusals.{first, unless}
+use Rattle.rules.specs.Answers.{countAnswer}
+use Rattle.rules.specs.declared.answer.CountAnswer.{CountAnswer}
 
 -- whether an answer fits a lent buffer
 unfoldable pub fits : List ℕ → List ℕ → Bool
@@ -23,6 +25,10 @@ listRefusal refused out a = first refused (unless (fits out a) 13)
 -- the lent buffer after it: the list in front, or as it was where something is refused
 unfoldable pub listOut : ℕ → List ℕ → List ℕ → List ℕ
 listOut refused out a = cond (eqb (listRefusal refused out a) 0) (laid out a) out
+
+-- how many items of `size` bytes the list has, where nothing is refused
+unfoldable pub counted : ℕ → ℕ → List ℕ → List ℕ → CountAnswer
+counted size refused out a = countAnswer (listRefusal refused out a) (length a / size)
 
 -- whether an item is to be kept at place n of a buffer, and there is room
 unfoldable pub keeps : List ℕ → ℕ → Bool → List ℕ → Bool

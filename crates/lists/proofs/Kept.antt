@@ -6,21 +6,14 @@ use Prim.Native.Nat.{ℕ, _+_, _-_, _*_, _≤_, _<_}
 use native.Mathlib.Nat.{le-trans}
 use native.Mathlib.Omega.{arith}
 use lib.ListN.{length, getD}
-use Rattle.rules.specs.Tools.{gather, only}
+use Rattle.rules.specs.Tools.{gather}
 use Rattle.rules.specs.Point.{lineNo, cellNo, lineSize, pointAt}
 use Rattle.rules.specs.Grid.{isEmpty, rowBytes, lineRows, fourEye, onLine, eyesIn, nearItem, nearIn}
 use Rattle.rules.specs.declared.Player.{Player}
 use Rattle.rules.specs.declared.RowKind.{RowKind}
 use Rattle.rules.proofs.Address.{size-le}
 use Rattle.lent.specs.Lists.{zeros, Wrote, Held}
-use Rattle.lent.proofs.Laws.{gather-length, only-length, gather-end}
-
--- at most k bytes for each number that passes
-pub short : (k : ℕ) (on : ℕ → Bool) (item : ℕ → List ℕ) → ((i : ℕ) → length (item i) ≤ k) → (n : ℕ)
-    → length (gather n (λ i. only (on i) (item i))) ≤ n * k
-short k on item h n =
-    gather-length k n (λ i. only (on i) (item i))
-    (λ i l. let a = only-length (on i) (item i) in let b = h i in omega arith)
+use Rattle.lent.proofs.Laws.{gather-length, gather-end, short}
 
 -- ---- a list in parts, one for each number
 

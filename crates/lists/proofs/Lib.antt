@@ -1,6 +1,6 @@
 -- The laws of the lists that are read off a board.
 pub mod Kept
 pub mod Shown
-pub mod Ends
+pub mod Open
 pub mod Masked
 pub mod Counts

@@ -1,11 +1,11 @@
 -- What the masks of sound lines show is what the rules say of the cells: rows, eyes, empty points. Assumes nothing.
-use mathlib.Core.Path.{_≡_, refl, ap, ap₂, sym, subst, _∙_}
+use mathlib.Core.Path.{_≡_, ap, ap₂, sym, subst, _∙_}
 use mathlib.Core.Bool.{Bool, true, false, not, _&&_, _||_}
 use mathlib.Core.List.{List, [], _∷_}
-use Prim.Native.Nat.{ℕ, zero, suc, _+_, _-_, _/_, _%_, _^_, _≤_, _<_}
+use Prim.Native.Nat.{ℕ, suc, _+_, _-_, _/_, _%_, _^_, _≤_, _<_}
 use native.Mathlib.Nat.{add-comm, mod-lt}
 use native.Mathlib.Omega.{arith}
-use lib.Dec.{T, eqb, leb, ltb, lit<}
+use lib.Dec.{T, leb, ltb, lit<}
 use lib.ListN.{getD}
 use lib.Bits.{bitAnd}
 use borrow.Author.Tests.{le-leb, lt-leb, le-ltb, lt-ltb}
@@ -28,7 +28,7 @@ use Rattle.masks.proofs.Windows.{eyes-bit}
 use Rattle.point.specs.Places.{hasPlace}
 use Rattle.rules.proofs.Address.{size-le}
 use Rattle.grid.specs.Lines.{shows, cellsOf, Sound, startsIn}
-use Rattle.grid.proofs.Lines.{line-at, shows-sound, cells-cellsOf}
+use Rattle.grid.proofs.Lines.{line-at, shows-sound, empty-cell}
 use Rattle.grid.proofs.RowStarts.{none-short, starts-in, starts-bits}
 use Rattle.lent.proofs.Laws.{gather-nothing}
 use Rattle.lists.specs.Lists.{valueList, cellList, rowList}
@@ -66,15 +66,6 @@ five-eyes size own other kind j h =
         ∙ sym (rw (le-leb j (j + i) (omega arith)))
 
 -- ---- empty cells
-
-three : (v : ℕ) → v ≤ 2 → eqb v 0 ≡ isEmpty v
-three zero h = refl
-three (suc zero) h = refl
-three (suc (suc zero)) h = refl
-three (suc (suc (suc v))) h = absurd (omega arith)
-
-pub empty-cell : (l : List ℕ) (p : ℕ) → p < 225 → eqb (getD (cellsOf l) p 0) 0 ≡ isEmpty (getD (cellsOf l) p 0)
-empty-cell l p hp = three (getD (cellsOf l) p 0) (cells-cellsOf l .small p hp)
 
 pub empty-list : (l : List ℕ) → valueList (cellsOf l) 0 ≡ emptyPoints (cellsOf l)
 unfolding valueList emptyPoints

@@ -1,3 +1,2 @@
--- What the contracts of `lists` cite beside the rules: the parts of the lists, the refusals, and the count.
+-- What the contracts of `lists` cite beside the rules: the parts of the lists and the refusals.
 pub mod Lists
-pub mod Answers

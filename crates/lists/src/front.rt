@@ -1,5 +1,4 @@
 // The fronts: each tests what it is given, in section 2's order, collects its list, and hands it out.
-use super::answer::CountAnswer;
 use super::codes::four_eyes;
 use super::codes::mask_points;
 use super::codes::near_points;
@@ -12,17 +11,18 @@ use super::row_bytes::all_rows;
 use super::row_bytes::rows_through;
 use board::Board;
 use lent::write_out;
+use rules::CountAnswer;
 use rules::Player;
 use rules::RowKind;
 ghost use mathlib.Core.Path.{_≡_};
 ghost use Prim.Native.Nat.{_/_, _<_};
 ghost use lib.ListN.{take};
 ghost use Rattle.rules.specs.Numbers.{playerOf, kindOf};
+ghost use Rattle.rules.specs.Answers.{countAnswer};
 ghost use Rattle.rules.specs.Grid.{stonesOf, emptyPoints, neighbours, rowsOf, rowsOnPoint, fourEyes};
-ghost use Rattle.lent.specs.Lists.{listRefusal, listOut};
+ghost use Rattle.lent.specs.Lists.{listRefusal, listOut, counted};
 ghost use Rattle.board.specs.Boards.{cells, boardRefusal, refusalFor, rowsOnRefusal};
 ghost use Rattle.lists.specs.Lists.{stonesRefusal, nearRefusal, rowsRefusal, maskRefusal, maskPoints};
-ghost use Rattle.lists.specs.Answers.{countAnswer, counted};
 
 // The colour's stones, as codes, ascending.
 pub fn stones(board: Board, colour: u8, out: &mut [u8]) -> CountAnswer

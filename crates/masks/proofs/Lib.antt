@@ -1,2 +1,3 @@
 -- The laws of the masks of a line, for other crates to cite.
 pub mod Windows
+pub mod Lowest

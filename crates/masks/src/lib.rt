@@ -15,6 +15,7 @@ ghost use lib.Dec.{leb};
 ghost use Rattle.rules.specs.Bit.{bit, maskOf};
 ghost use Rattle.rules.specs.Line.{inside, free, beside, readNumber, holds, scores, openAt, overAt, rowAt, span, through};
 ghost use Rattle.rules.specs.Line.{emptyAt, eyeOfSome, spreadAt, eyesOf, boundOf, soundLine, segmentMask};
+ghost use Rattle.rules.specs.Forbidden.{apart};
 ghost use Rattle.masks.specs.Masks.{Tallied, spelled};
 
 // The windows that lie on a line of `size` cells.
@@ -154,6 +155,16 @@ pub fn row_starts_on(my: u16, op: u16, size: u8, black: bool, kind: RowKind, i: 
     ensures { λ r. ⌜ r ≡ maskOf 16 (λ j. rowAt black size (bit my) (bit op) kind j && through kind i j) ⌝ }
 {
     row_starts(my, op, size, black, kind) & starts_between(first_through(kind, i), i)
+}
+
+// Whether the starts on a line are more than one row: not all of them are in {j, j+1}. Past the first start and the next cell one is left.
+pub fn is_apart(starts: u16) -> bool
+    ensures { λ r. ⌜ r ≡ apart (bit starts) ⌝ }
+{
+    if starts == 0 {
+        return false;
+    }
+    starts & !(3u16 << u16::trailing_zeros(starts)) != 0
 }
 
 // The empty cells of the line.

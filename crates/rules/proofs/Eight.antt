@@ -238,7 +238,7 @@ module _ (v : ℕ) (A B : List ℕ) (p : ℕ) (hv : v < 8) (t : Turned v A B) (h
           to-lt = λ d hd. dir-lt v d hv hd;
           to-one = λ d e hd he q. sym (dir-undo v d hv hd) ∙ ap (turnDir (undo v)) q ∙ dir-undo v e hv he;
           row =
-              λ d j hd u.
+              λ d j hd hj u.
               let a = goes d j hd u in
               let x = moves d j (a .0) hd (a .1) u in
               (a .0, lands d (a .0) hd x, x);

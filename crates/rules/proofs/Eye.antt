@@ -1,6 +1,6 @@
 -- A Three has exactly one eye; "real" asks there. Assumes nothing.
 use mathlib.Core.Path.{_≡_, sym, subst, ap, _∙_}
-use mathlib.Core.Bool.{Bool, not, _&&_}
+use mathlib.Core.Bool.{Bool, not, _&&_, cond}
 use mathlib.Core.List.{List}
 use Prim.Native.Nat.{ℕ, _+_, _-_, _≤_, _<_}
 use native.Mathlib.Omega.{arith}
@@ -15,7 +15,7 @@ use Rattle.rules.specs.Grid.{stoneAt, rowOn, eyeOn}
 use Rattle.rules.specs.Forbidden.{Ask, isReal}
 use Rattle.rules.specs.declared.Player.the-variants.{Black}
 use Rattle.rules.specs.declared.RowKind.the-variants.{Three}
-use Rattle.rules.proofs.Logic.{and-left, and-right, and-intro, implies, implied, both-ways, any-elim, any-intro, all2}
+use Rattle.rules.proofs.Logic.{and-left, and-right, and-intro, implies, implied, both-ways, any-elim, any-intro, all-elim, all2}
 use Rattle.rules.proofs.Logic.{true-T}
 use Rattle.rules.proofs.Tables.{at5}
 use Rattle.rules.proofs.Windows.{Window, scored, five, five-at, free-at, pair-elim}
@@ -42,6 +42,20 @@ some-gap a b c d e t =
     any-elim 4 (λ k. not (five a b c d e k))
     (implied (gapped a b c d e) (anyBelow 4 (λ k. not (five a b c d e k)))
     (at5 (λ a b c d e. implies (gapped a b c d e) (anyBelow 4 (λ k. not (five a b c d e k)))) tt a b c d e) t)
+
+-- the gap is the first of them
+abbrev pub firstGap : Bool → Bool → Bool → ℕ
+firstGap a b c = cond a (cond b (cond c 3 2) 1) 0
+
+first-gap : (a b c d e : Bool) (k : ℕ) → k < 4 → T (gapped a b c d e) → T (not (five a b c d e k)) → k ≡ firstGap a b c
+unfolding allBelow
+first-gap a b c d e k hk s t =
+    let test : Bool → Bool → Bool → Bool → Bool → ℕ → Bool = λ a b c d e k.
+    implies (gapped a b c d e && not (five a b c d e k)) (eqb k (firstGap a b c)) in
+    eqb→eq k (firstGap a b c)
+    (implied (gapped a b c d e && not (five a b c d e k)) (eqb k (firstGap a b c))
+    (all-elim 4 (test a b c d e) (at5 (λ a b c d e. allBelow 4 (test a b c d e)) tt a b c d e) k hk)
+    (and-intro (gapped a b c d e) (not (five a b c d e k)) s t))
 
 -- ---- the eye of a Three at j, on one line
 
@@ -95,6 +109,12 @@ module _ (black : Bool) (size : ℕ) (own other : Stones) (j : ℕ) (t : T (rowA
         q,
         subst (λ (b : Bool). T (not b)) (ap own q ∙ sym (five-at own j (e - j) (omega arith))) (and-left (not (own e)) (not (other e)) z),
       )
+
+  -- it is the first of the four cells that has no own stone
+  pub eye-first : (e : ℕ) → T (isEye size own other Three j e) → e ≡ j + firstGap (own j) (own (j + 1)) (own (j + 2))
+  eye-first e u =
+      let g = gap e u in
+      g .2 ∙ ap (λ (x : ℕ). j + x) (first-gap (own j) (own (j + 1)) (own (j + 2)) (own (j + 3)) (own (j + 4)) (g .0) (g .1) stones (g .3))
 
   pub eye-one : (e f : ℕ) → T (isEye size own other Three j e) → T (isEye size own other Three j f) → e ≡ f
   eye-one e f u v =

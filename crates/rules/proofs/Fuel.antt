@@ -18,8 +18,8 @@ use Rattle.rules.specs.declared.Verdict.the-variants.{None, DoubleThree,
 use Rattle.rules.proofs.Logic.{and-left, and-right, and-intro, both-ways, any-elim, any-intro}
 use Rattle.rules.proofs.Address.{point-lt, line-here}
 use Rattle.rules.proofs.Changes.{empties-put}
-use Rattle.rules.proofs.More.{Carried, more-carried}
-use Rattle.rules.proofs.Rows.{start-lt, eye-inside}
+use Rattle.rules.proofs.More.{more-mono}
+use Rattle.rules.proofs.Rows.{eye-inside}
 
 -- ---- the plain verdict asks only about the board with Black at p, at points of the board
 
@@ -43,30 +43,8 @@ module _ (cells : List ℕ) (p : ℕ) (hp : p < 225) (ask ask′ : Ask) (same : 
       (and-left (rowsThrough Black Three cells p d j) (isReal ask cells p d j) u)
       (real-same d j hd (and-right (rowsThrough Black Three cells p d j) (isReal ask cells p d j) u))
 
-  real-start : (d j : ℕ) → d < 4 → T (realThrees ask cells p d j) → j < 16
-  unfolding realThrees
-  real-start d j hd u = start-lt Black Three cells p d j (and-left (rowsThrough Black Three cells p d j) (isReal ask cells p d j) u)
-
-  real-carried : Carried (realThrees ask cells p) (realThrees ask′ cells p)
-  real-carried =
-      record {
-        to = λ d. d;
-        to-lt = λ d hd. hd;
-        to-one = λ d e hd he q. q;
-        row = λ d j hd u. (j, real-start d j hd u, real-moves d j hd u);
-        rows = λ d hd w. record {
-          j = w .j;
-          k = w .k;
-          far = w .far;
-          k-lt = w .k-lt;
-          here = real-moves d (w .j) hd
-              (w .here);
-          there = real-moves d (w .k) hd (w .there);
-        };
-      }
-
   pub real-more : T (moreThanOne (realThrees ask cells p)) → T (moreThanOne (realThrees ask′ cells p))
-  real-more u = more-carried (realThrees ask cells p) (realThrees ask′ cells p) real-carried u
+  real-more u = more-mono (realThrees ask cells p) (realThrees ask′ cells p) (λ d j hd hj. real-moves d j hd) u
 
 module _ (cells : List ℕ) (p : ℕ) (hp : p < 225) (ask ask′ : Ask)
     (same : (e : ℕ) → e < 225 → ask (withBlack cells p) e ≡ ask′ (withBlack cells p) e) where

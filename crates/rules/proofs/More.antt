@@ -1,5 +1,5 @@
 -- "More than one", by witnesses. Assumes nothing.
-use mathlib.Core.Path.{_≡_, subst}
+use mathlib.Core.Path.{_≡_, sym, subst}
 use mathlib.Core.Logic.{_⊎_, inl, inr}
 use mathlib.Core.Bool.{Bool, not, _&&_}
 use Prim.Native.Nat.{ℕ, _+_, _-_, _≤_, _<_}
@@ -9,6 +9,7 @@ use Rattle.rules.specs.Tools.{anyBelow}
 use Rattle.rules.specs.Grid.{Starts}
 use Rattle.rules.specs.Forbidden.{someStart, someRow, onTwoLines, apart, moreThanOne}
 use Rattle.rules.proofs.Logic.{and-left, and-right, and-intro, or-left, or-right, or-cases, not-intro, not-elim, any-elim, any-intro}
+use Rattle.rules.proofs.Logic.{along, both-ways}
 
 -- what the tests say
 pub someRow-elim : (s : Starts) → T (someRow s) → (d j : ℕ) × (d < 4) × (j < 16) × T (s d j)
@@ -128,20 +129,20 @@ pub record Carried (s s′ : Starts) : Type 0 where
   pub to : ℕ → ℕ
   pub to-lt : (d : ℕ) → d < 4 → to d < 4
   pub to-one : (d e : ℕ) → d < 4 → e < 4 → to d ≡ to e → d ≡ e
-  pub row : (d j : ℕ) → d < 4 → T (s d j) → (k : ℕ) × (k < 16) × T (s′ (to d) k)
+  pub row : (d j : ℕ) → d < 4 → j < 16 → T (s d j) → (k : ℕ) × (k < 16) × T (s′ (to d) k)
   pub rows : (d : ℕ) → d < 4 → TwoApart (s d) → TwoApart (s′ (to d))
 
 module _ (s s′ : Starts) (c : Carried s s′) where
   pub someRow-carried : T (someRow s) → T (someRow s′)
   someRow-carried t =
       let a = someRow-elim s t in
-      let b = c .row (a .0) (a .1) (a .2) (a .4) in
+      let b = c .row (a .0) (a .1) (a .2) (a .3) (a .4) in
       someRow-intro s′ (c .to (a .0)) (b .0) (c .to-lt (a .0) (a .2)) (b .1) (b .2)
 
   carry : TwoLines s ⊎ ((d : ℕ) × (d < 4) × TwoApart (s d)) → T (moreThanOne s′)
   carry (inl w) =
-      let a = c .row (w .d1) (w .j1) (w .d1-lt) (w .here) in
-      let b = c .row (w .d2) (w .j2) (w .d2-lt) (w .there) in
+      let a = c .row (w .d1) (w .j1) (w .d1-lt) (w .j1-lt) (w .here) in
+      let b = c .row (w .d2) (w .j2) (w .d2-lt) (w .j2-lt) (w .there) in
       more-lines s′
       (record {
         d1 = c .to (w .d1);
@@ -160,3 +161,45 @@ module _ (s s′ : Starts) (c : Carried s s′) where
 
   pub more-carried : T (moreThanOne s) → T (moreThanOne s′)
   more-carried t = carry (more-elim s t)
+
+-- starts that are all among others
+module _ (s s′ : Starts) (among : (d j : ℕ) → d < 4 → j < 16 → T (s d j) → T (s′ d j)) where
+  alike : Carried s s′
+  alike =
+      record {
+        to = λ d. d;
+        to-lt = λ d hd. hd;
+        to-one = λ d e hd he q. q;
+        row = λ d j hd hj u. (j, hj, among d j hd hj u);
+        rows = λ d hd w.
+            let far = w .far in
+            let lt = w .k-lt in
+            record {
+              j = w .j;
+              k = w .k;
+              far = w .far;
+              k-lt = w .k-lt;
+              here = among d (w .j) hd (omega arith) (w .here);
+              there = among d (w .k) hd (w .k-lt) (w .there);
+            };
+      }
+
+  someRow-mono : T (someRow s) → T (someRow s′)
+  someRow-mono = someRow-carried s s′ alike
+
+  pub more-mono : T (moreThanOne s) → T (moreThanOne s′)
+  more-mono = more-carried s s′ alike
+
+-- the tests look at directions below 4 and at starts below 16
+module _ (s s′ : Starts) (same : (d j : ℕ) → d < 4 → j < 16 → s d j ≡ s′ d j) where
+  to : (d j : ℕ) → d < 4 → j < 16 → T (s d j) → T (s′ d j)
+  to d j hd hj = along (same d j hd hj)
+
+  fro : (d j : ℕ) → d < 4 → j < 16 → T (s′ d j) → T (s d j)
+  fro d j hd hj = along (sym (same d j hd hj))
+
+  pub someRow-same : someRow s ≡ someRow s′
+  someRow-same = both-ways (someRow s) (someRow s′) (someRow-mono s s′ to) (someRow-mono s′ s fro)
+
+  pub more-same : moreThanOne s ≡ moreThanOne s′
+  more-same = both-ways (moreThanOne s) (moreThanOne s′) (more-mono s s′ to) (more-mono s′ s fro)

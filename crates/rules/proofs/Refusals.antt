@@ -4,7 +4,7 @@ use mathlib.Core.Bool.{Bool, true, false, cond}
 use Prim.Native.Nat.{ℕ, suc}
 use native.Mathlib.Omega.{arith}
 use lib.Dec.{T, eqb}
-use borrow.Author.Tests.{eqb-true}
+use borrow.Author.Tests.{eqb-true, eq-eqb, ne-eqb}
 use Rattle.rules.specs.Refusals.{unless, first}
 use Rattle.rules.proofs.Logic.{no-true}
 
@@ -40,3 +40,11 @@ given f z refused a b h = go (eqb refused 0) refl
     go : (t : Bool) → eqb refused 0 ≡ t → cond t (f a) z ≡ cond t (f b) z
     go true e = ap f (h (eqb-true refused 0 e))
     go false e = refl
+
+-- an answer given back: its value, or what was refused; `told` is what the refusal means
+module _ {B A : Type 0} (is : B → A) (no : ℕ → A) {refused told : ℕ} (v : B) (e : refused ≡ told) where
+  pub value-given : {r : B} → refused ≡ 0 → r ≡ v → is r ≡ cond (eqb told 0) (is v) (no told)
+  value-given z er = rw (eq-eqb told 0 (sym e ∙ z)) (ap is er)
+
+  pub refusal-given : (refused ≡ 0 → ⊥) → no refused ≡ cond (eqb told 0) (is v) (no told)
+  refusal-given n = rw (ne-eqb told 0 (λ z. n (e ∙ z))) (ap no e)

@@ -23,6 +23,12 @@ every3 f = every1 (λ a. every2 (λ b c. f a b c))
 pub at3 : (f : Bool → Bool → Bool → Bool) → T (every3 f) → (a b c : Bool) → T (f a b c)
 at3 f t a b c = at2 (λ b c. f a b c) (at1 (λ a. every2 (λ b c. f a b c)) t a) b c
 
+abbrev pub every4 : (Bool → Bool → Bool → Bool → Bool) → Bool
+every4 f = every2 (λ a b. every2 (λ c d. f a b c d))
+
+pub at4 : (f : Bool → Bool → Bool → Bool → Bool) → T (every4 f) → (a b c d : Bool) → T (f a b c d)
+at4 f t a b c d = at2 (λ c d. f a b c d) (at2 (λ a b. every2 (λ c d. f a b c d)) t a b) c d
+
 abbrev pub every5 : (Bool → Bool → Bool → Bool → Bool → Bool) → Bool
 every5 f = every3 (λ a b c. every2 (λ d e. f a b c d e))
 
@@ -46,6 +52,10 @@ table2 f g t a b = beq-eq (f a b) (g a b) (at2 (λ a b. Bool·beq (f a b) (g a b
 
 pub table3 : (f g : Bool → Bool → Bool → Bool) → T (every3 (λ a b c. Bool·beq (f a b c) (g a b c))) → (a b c : Bool) → f a b c ≡ g a b c
 table3 f g t a b c = beq-eq (f a b c) (g a b c) (at3 (λ a b c. Bool·beq (f a b c) (g a b c)) t a b c)
+
+pub table4 : (f g : Bool → Bool → Bool → Bool → Bool) → T (every4 (λ a b c d. Bool·beq (f a b c d) (g a b c d))) → (a b c d : Bool)
+    → f a b c d ≡ g a b c d
+table4 f g t a b c d = beq-eq (f a b c d) (g a b c d) (at4 (λ a b c d. Bool·beq (f a b c d) (g a b c d)) t a b c d)
 
 pub table5 : (f g : Bool → Bool → Bool → Bool → Bool → Bool) → T (every5 (λ a b c d e. Bool·beq (f a b c d e) (g a b c d e)))
     → (a b c d e : Bool) → f a b c d e ≡ g a b c d e

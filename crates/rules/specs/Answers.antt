@@ -8,6 +8,8 @@ use Rattle.rules.specs.declared.answer.MaskAnswer.{MaskAnswer}
 use Rattle.rules.specs.declared.answer.MaskAnswer.the-variants as mask
 use Rattle.rules.specs.declared.answer.NumberAnswer.{NumberAnswer}
 use Rattle.rules.specs.declared.answer.NumberAnswer.the-variants as number
+use Rattle.rules.specs.declared.answer.CountAnswer.{CountAnswer}
+use Rattle.rules.specs.declared.answer.CountAnswer.the-variants as count
 use Rattle.rules.specs.declared.answer.TestAnswer.{TestAnswer}
 use Rattle.rules.specs.declared.answer.TestAnswer.the-variants as test
 use Rattle.rules.specs.declared.answer.ScoreAnswer.{ScoreAnswer}
@@ -20,6 +22,9 @@ maskAnswer refused m = cond (eqb refused 0) (mask.Is m) (mask.Refused refused)
 
 unfoldable pub numberAnswer : ℕ → ℕ → NumberAnswer
 numberAnswer refused n = cond (eqb refused 0) (number.Is n) (number.Refused refused)
+
+unfoldable pub countAnswer : ℕ → ℕ → CountAnswer
+countAnswer refused n = cond (eqb refused 0) (count.Is n) (count.Refused refused)
 
 unfoldable pub testAnswer : ℕ → Bool → TestAnswer
 testAnswer refused b = cond (eqb refused 0) (test.Is b) (test.Refused refused)

@@ -62,9 +62,13 @@ isOverline cells p = someRow (rowsThrough Black Overlining cells p)
 unfoldable pub isDoubleFour : List ℕ → ℕ → Bool
 isDoubleFour cells p = moreThanOne (rowsThrough Black Sword cells p)
 
+-- "more than one real Three through p", of the board that has the stone
+abbrev pub realDouble : Ask → List ℕ → ℕ → Bool
+realDouble ask cells p = moreThanOne (realThrees ask cells p)
+
 -- "DoubleThree: more than one Two through p, and on the board with Black at p more than one real Three through p."
 unfoldable pub isDoubleThree : Ask → List ℕ → ℕ → Bool
-isDoubleThree ask cells p = moreThanOne (rowsThrough Black Two cells p) && moreThanOne (realThrees ask (withBlack cells p) p)
+isDoubleThree ask cells p = moreThanOne (rowsThrough Black Two cells p) && realDouble ask (withBlack cells p) p
 
 -- ---- the verdicts
 

@@ -1,7 +1,7 @@
 // What a question with refusals answers where its value is plain: the value, or the number of the refusal alone.
 use super::Player;
 ghost use mathlib.Core.Path.{_≡_};
-ghost use Rattle.rules.specs.Answers.{maskAnswer, numberAnswer, testAnswer, scoreAnswer, stoneAnswer};
+ghost use Rattle.rules.specs.Answers.{maskAnswer, numberAnswer, countAnswer, testAnswer, scoreAnswer, stoneAnswer};
 
 // A mask of windows, rows or cells.
 pub enum MaskAnswer {
@@ -12,6 +12,12 @@ pub enum MaskAnswer {
 // A number of stones or of items, or the mask of a window's five cells.
 pub enum NumberAnswer {
     Is(u8),
+    Refused(u8),
+}
+
+// How many items a list of a board has. A full board of White's has 572 rows of five, so the number is wider than a byte.
+pub enum CountAnswer {
+    Is(u16),
     Refused(u8),
 }
 
@@ -53,6 +59,18 @@ impl NumberAnswer {
             NumberAnswer::Is(number)
         } else {
             NumberAnswer::Refused(refused)
+        }
+    }
+}
+
+impl CountAnswer {
+    pub fn of(refused: u8, count: u16) -> CountAnswer
+        ensures { λ r. ⌜ r ≡ countAnswer refused count ⌝ }
+    {
+        if refused == 0 {
+            CountAnswer::Is(count)
+        } else {
+            CountAnswer::Refused(refused)
         }
     }
 }

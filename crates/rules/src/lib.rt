@@ -1,6 +1,7 @@
 // The types of the game with the paper's numbers, refusals and answers. The rules themselves are in specs/, their laws in proofs/.
 mod answer;
 
+pub use answer::CountAnswer;
 pub use answer::MaskAnswer;
 pub use answer::NumberAnswer;
 pub use answer::ScoreAnswer;

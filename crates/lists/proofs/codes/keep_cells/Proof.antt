@@ -8,9 +8,8 @@ use Rattle.rules.specs.Bit.{bit}
 use Rattle.rules.specs.Point.{lineSize, pointAt}
 use Rattle.rules.proofs.Address.{size-le}
 use Rattle.lent.specs.Lists.{Wrote}
-use Rattle.lent.proofs.Laws.{wrote-same, wrote-first, wrote-step, wrote-top}
+use Rattle.lent.proofs.Laws.{wrote-same, wrote-first, wrote-step, wrote-top, short}
 use Rattle.lists.specs.Lists.{cellItem, cellList}
-use Rattle.lists.proofs.Kept.{short}
 use Rattle.lists.proofs.codes.keep_cells.Statement.{statement}
 use Rattle.lists.proofs.codes.keep_cells.Tie as tie
 

@@ -9,9 +9,8 @@ use Rattle.rules.specs.Bit.{bit}
 use Rattle.rules.specs.Point.{keySize, keyPoint}
 use Rattle.rules.proofs.Logic.{all-elim}
 use Rattle.lent.specs.Lists.{zeros, Wrote}
-use Rattle.lent.proofs.Laws.{wrote-start, wrote-length, gather-step, gather-end}
+use Rattle.lent.proofs.Laws.{wrote-start, wrote-length, gather-step, gather-end, short}
 use Rattle.lists.specs.Lists.{maskItem, maskPoints, maskCell}
-use Rattle.lists.proofs.Kept.{short}
 use Rattle.lists.proofs.codes.mask_points.Statement.{statement}
 use Rattle.lists.proofs.codes.mask_points.Tie as tie
 

@@ -2,7 +2,7 @@
 use denote.Ref.{now}
 use borrow.Author.Needs.{needs}
 use Rattle.grid.proofs.Lines.{cell-of}
-use Rattle.lists.proofs.Shown.{empty-cell}
+use Rattle.grid.proofs.Lines.{empty-cell}
 use Rattle.lists.proofs.codes.may_name.Statement.{statement}
 use Rattle.lists.proofs.codes.may_name.Tie as tie
 

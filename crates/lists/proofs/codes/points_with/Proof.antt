@@ -8,11 +8,10 @@ use denote.Ref.{now}
 use borrow.Author.Needs.{needs}
 use Rattle.rules.specs.Tools.{gather}
 use Rattle.lent.specs.Lists.{zeros, Wrote}
-use Rattle.lent.proofs.Laws.{wrote-start, wrote-length, gather-step, gather-end}
+use Rattle.lent.proofs.Laws.{wrote-start, wrote-length, gather-step, gather-end, short}
 use Rattle.grid.specs.Lines.{cellsOf}
 use Rattle.grid.proofs.Lines.{cell-of}
 use Rattle.lists.specs.Lists.{valueItem, valueList}
-use Rattle.lists.proofs.Kept.{short}
 use Rattle.lists.proofs.codes.points_with.Statement.{statement}
 use Rattle.lists.proofs.codes.points_with.Tie as tie
 

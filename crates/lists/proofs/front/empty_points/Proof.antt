@@ -1,8 +1,8 @@
 -- `lists::front::empty_points` meets its contract: the points that hold 0 are collected, then handed out. Assumes nothing.
 use native.Mathlib.Omega.{arith}
 use borrow.Author.Needs.{needs}
+use Rattle.lent.proofs.Laws.{held-as, held-le, handed}
 use Rattle.lists.proofs.Shown.{empty-list}
-use Rattle.lists.proofs.Ends.{held-as, held-le, handed}
 use Rattle.lists.proofs.front.empty_points.Statement.{statement}
 use Rattle.lists.proofs.front.empty_points.Tie as tie
 

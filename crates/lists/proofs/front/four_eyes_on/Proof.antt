@@ -6,7 +6,7 @@ use Rattle.rules.specs.Grid.{fourEyes}
 use Rattle.rules.specs.declared.Player.{Player}
 use Rattle.board.specs.Boards.{cells}
 use Rattle.board.proofs.Given.{for-in}
-use Rattle.lists.proofs.Ends.{held-as, held-le, handed, turned-down}
+use Rattle.lent.proofs.Laws.{held-as, held-le, handed, turned-down}
 use Rattle.lists.proofs.front.four_eyes_on.Statement.{statement}
 use Rattle.lists.proofs.front.four_eyes_on.Tie as tie
 

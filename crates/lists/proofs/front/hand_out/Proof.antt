@@ -3,7 +3,7 @@ use mathlib.Core.Path.{ap, _∙_}
 use Prim.Native.Nat.{ℕ, _/_}
 use native.Mathlib.Nat.{div-le-self}
 use native.Mathlib.Omega.{arith}
-use Rattle.lists.specs.Answers.{countAnswer}
+use Rattle.rules.specs.Answers.{countAnswer}
 use borrow.Author.Needs.{needs}
 use Rattle.lists.proofs.front.hand_out.Statement.{statement}
 use Rattle.lists.proofs.front.hand_out.Tie as tie

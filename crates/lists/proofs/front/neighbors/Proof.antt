@@ -2,7 +2,8 @@
 use mathlib.Core.Path.{sym, _∙_}
 use native.Mathlib.Omega.{arith}
 use borrow.Author.Needs.{needs}
-use Rattle.lists.proofs.Ends.{held-le, handed, turned-down, near-open}
+use Rattle.lent.proofs.Laws.{held-le, handed, turned-down}
+use Rattle.lists.proofs.Open.{near-open}
 use Rattle.lists.proofs.front.neighbors.Statement.{statement}
 use Rattle.lists.proofs.front.neighbors.Tie as tie
 

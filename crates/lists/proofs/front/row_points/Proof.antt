@@ -1,7 +1,7 @@
 -- `lists::front::row_points` meets its contract: refused, or the points are collected, then handed out. Assumes nothing.
 use mathlib.Core.Path.{sym, _∙_}
 use native.Mathlib.Omega.{arith}
-use Rattle.lists.proofs.Ends.{held-le, handed, turned-down}
+use Rattle.lent.proofs.Laws.{held-le, handed, turned-down}
 use Rattle.lists.proofs.Masked.{mask-open}
 use borrow.Author.Needs.{needs}
 use Rattle.lists.proofs.front.row_points.Statement.{statement}

@@ -6,7 +6,8 @@ use Rattle.rules.specs.Grid.{rowsOf}
 use Rattle.rules.specs.declared.Player.{Player}
 use Rattle.rules.specs.declared.RowKind.{RowKind}
 use Rattle.board.specs.Boards.{cells}
-use Rattle.lists.proofs.Ends.{held-as, held-le, handed, turned-down, rows-open}
+use Rattle.lent.proofs.Laws.{held-as, held-le, handed, turned-down}
+use Rattle.lists.proofs.Open.{rows-open}
 use Rattle.lists.proofs.front.rows.Statement.{statement}
 use Rattle.lists.proofs.front.rows.Tie as tie
 

@@ -7,7 +7,7 @@ use Rattle.rules.specs.declared.Player.{Player}
 use Rattle.rules.specs.declared.RowKind.{RowKind}
 use Rattle.board.specs.Boards.{cells}
 use Rattle.board.proofs.Given.{rows-on-in}
-use Rattle.lists.proofs.Ends.{held-as, held-le, handed, turned-down}
+use Rattle.lent.proofs.Laws.{held-as, held-le, handed, turned-down}
 use Rattle.lists.proofs.front.rows_on.Statement.{statement}
 use Rattle.lists.proofs.front.rows_on.Tie as tie
 

@@ -5,8 +5,8 @@ use borrow.Author.Needs.{needs}
 use Rattle.rules.specs.Numbers.{colourNo}
 use Rattle.rules.specs.Grid.{stonesOf}
 use Rattle.board.specs.Boards.{cells}
+use Rattle.lent.proofs.Laws.{held-as, held-le, handed}
 use Rattle.lists.specs.Lists.{valueList}
-use Rattle.lists.proofs.Ends.{held-as, held-le, handed}
 use Rattle.lists.proofs.front.stones.Statement.{statement}
 use Rattle.lists.proofs.front.stones.Tie as tie
 

@@ -11,9 +11,8 @@ use Rattle.rules.specs.Line.{stonesMask, eyesMask}
 use Rattle.rules.specs.Point.{keySize}
 use Rattle.rules.proofs.Address.{keySize-le}
 use Rattle.lent.specs.Lists.{Wrote}
-use Rattle.lent.proofs.Laws.{wrote-same, wrote-first, wrote-step, wrote-top}
+use Rattle.lent.proofs.Laws.{wrote-same, wrote-first, wrote-step, wrote-top, short}
 use Rattle.lists.specs.Lists.{rowItem, rowList}
-use Rattle.lists.proofs.Kept.{short}
 use Rattle.lists.proofs.Shown.{five-eyes}
 use Rattle.lists.proofs.row_bytes.keep_rows.Statement.{statement}
 use Rattle.lists.proofs.row_bytes.keep_rows.Tie as tie

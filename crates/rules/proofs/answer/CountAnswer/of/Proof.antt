@@ -1,8 +1,8 @@
--- `lists::CountAnswer::of` meets its contract: its arms are the cases of the definition. Assumes nothing.
+-- `rules::CountAnswer::of` meets its contract: its arms are the cases of the definition. Assumes nothing.
 use borrow.Author.Tests.{eq-eqb, ne-eqb}
-use Rattle.lists.specs.Answers.{countAnswer}
-use Rattle.lists.proofs.answer.CountAnswer.of.Statement.{statement}
-use Rattle.lists.proofs.answer.CountAnswer.of.Tie as tie
+use Rattle.rules.specs.Answers.{countAnswer}
+use Rattle.rules.proofs.answer.CountAnswer.of.Statement.{statement}
+use Rattle.rules.proofs.answer.CountAnswer.of.Tie as tie
 
 returns : tie.Need-returns
 unfolding countAnswer

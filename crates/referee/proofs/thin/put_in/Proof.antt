@@ -1,0 +1,29 @@
+-- `referee::thin::put_in` meets its contract, as `put_black` does: an instance of the shared walk. Assumes nothing.
+use mathlib.Core.Path.{_≡_, ap}
+use base.Logic.{emp}
+use contract.Running.{givenOf, tables, tablesOf}
+use denote.Triple.Spec.{tripleOf}
+use denote.Triple.Table.{entered, cited}
+use Rattle.grid.specs.Lines.{writeOn}
+use Rattle.referee.specs.Referee.{writtenBoard}
+use Rattle.referee.proofs.Lines.{with-lines}
+use Rattle.referee.proofs.Walk.{thin-unit}
+use Rattle.referee.proofs.cycle.put_black as put-black
+use Rattle.referee.proofs.cycle.put_black.Symbol as put-black-def
+use Rattle.referee.proofs.cycle.put_black.Symbol.{name as #put-black}
+use Rattle.referee.proofs.cycle.put_black.Met as put-black-thm
+use Rattle.referee.proofs.thin.put_in as put-in
+use Rattle.referee.proofs.thin.put_in.Key.{name as #put-in}
+use Rattle.referee.proofs.thin.put_in.Statement as stated
+use Rattle.referee.proofs.thin.put_in.Code as code
+
+pub put-in-spec : {M : Type 1} → stated.statement M
+unfolding code.routine tablesOf
+put-in-spec 𝓤 H 𝓜 𝓖 𝓡 =
+    entered 𝓤 H (tripleOf 𝓤 H (𝓖 .A) put-in.signature (put-in.spec 𝓤 H (𝓖 .A) (𝓜 .mem) (𝓡 .run)))
+    (tables 𝓤 H 𝓜 𝓡 code.env .C) (tables 𝓤 H 𝓜 𝓡 code.env .Λ) #put-in code.function (code.unfolded 𝓤 H 𝓜 𝓡)
+    (thin-unit 𝓤 H (𝓖 .A) (givenOf 𝓤 H 𝓜 𝓖) (λ n xs. emp 𝓤)
+    (λ n xs zs r. zs ≡ writeOn xs n 1) (λ n h h′ r. h′ ≡ writtenBoard h n 1) (λ n h zs r e. ap (with-lines h) e)
+    (tablesOf 𝓤 H 𝓜 (tables 𝓤 H 𝓜 𝓡 code.env)) #put-black
+    (cited 𝓤 H (tripleOf 𝓤 H (𝓖 .A) put-black.signature (put-black.spec 𝓤 H (𝓖 .A) (𝓜 .mem) (𝓡 .run))) 𝓜 𝓡 code.env
+    #put-black put-black-def.routine code.calls-referee·cycle·put-black (put-black-thm.met 𝓤 H 𝓜 𝓖 𝓡)))

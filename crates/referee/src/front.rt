@@ -1,0 +1,99 @@
+// The front on a board by value: each question tests what it is given, in section 2's order, and asks the referee on its copy of the lines.
+use super::answer::VerdictAnswer;
+use super::cycle::plain;
+use super::list::forbidden_pairs;
+use super::on_lines::strict_on;
+use super::starts::has_multiple_starts;
+use super::thin::tried;
+use board::Board;
+use grid::cell_of;
+use grid::row_starts_on;
+use lent::write_out;
+use rules::CountAnswer;
+use rules::Player;
+use rules::RowKind;
+use rules::TestAnswer;
+use rules::unless;
+ghost use mathlib.Core.Path.{_≡_};
+ghost use Prim.Native.Nat.{_<_};
+ghost use Rattle.rules.specs.Answers.{testAnswer};
+ghost use Rattle.rules.specs.Forbidden.{strictOf, plainOf, forbiddenList};
+ghost use Rattle.lent.specs.Lists.{counted, listOut};
+ghost use Rattle.grid.specs.Lines.{cellsOf, Sound};
+ghost use Rattle.board.specs.Boards.{cells, boardRefusal, refusalAt};
+ghost use Rattle.referee.specs.Referee.{doubleThreeAt};
+ghost use Rattle.referee.specs.Answers.{verdictAnswer, forbiddenRefusal};
+
+// The plain verdict at an empty point.
+pub fn forbidden(board: Board, code: u8) -> VerdictAnswer
+    ensures { λ r. ⌜ r ≡ verdictAnswer (forbiddenRefusal board code) (plainOf (cells board) code) ⌝ }
+{
+    let refused = forbidden_refusal(board, code);
+    if refused != 0 {
+        return VerdictAnswer::Refused(refused);
+    }
+    let mut lines = board.lines;
+    VerdictAnswer::Is(plain(&mut lines, code))
+}
+
+// The strict verdict: none at an occupied point, and where the stone completes a five.
+pub fn forbidden_strict(board: Board, code: u8) -> VerdictAnswer
+    ensures { λ r. ⌜ r ≡ verdictAnswer (refusalAt board code) (strictOf (cells board) code) ⌝ }
+{
+    let mut lines = board.lines;
+    strict_on(&mut lines, code)
+}
+
+// Whether the point is empty and a double three for Black, whatever other kind it is.
+pub fn is_double_three(board: Board, code: u8) -> TestAnswer
+    ensures { λ r. ⌜ r ≡ testAnswer (refusalAt board code) (doubleThreeAt (cells board) code) ⌝ }
+{
+    let refused = board.refusal_at(code);
+    if refused != 0 {
+        return TestAnswer::Refused(refused);
+    }
+    let lines = board.lines;
+    TestAnswer::Is(double_three_at(&lines, code))
+}
+
+// The forbidden points, two bytes each, the kind and the code, by ascending code; and how many there are.
+pub fn forbidden_points(board: Board, out: &mut [u8]) -> CountAnswer
+    ensures { λ r. ⌜ (r ≡ counted 2 (boardRefusal board) (now (out .entry)) (forbiddenList (cells board)))
+        × (now (out .exit) ≡ listOut (boardRefusal board) (now (out .entry)) (forbiddenList (cells board))) ⌝ }
+{
+    let refused = board.refusal();
+    if refused != 0 {
+        return CountAnswer::Refused(refused);
+    }
+    let mut lines = board.lines;
+    let found = forbidden_pairs(&mut lines);
+    let bytes = found.bytes;
+    let refusal = write_out(refused, out, &bytes, found.len);
+    CountAnswer::of(refusal, (found.len / 2) as u16)
+}
+
+// 9, 8, then 11 for an occupied point, where the plain verdict is not asked.
+fn forbidden_refusal(board: Board, code: u8) -> u8
+    ensures { λ r. ⌜ r ≡ forbiddenRefusal board code ⌝ }
+{
+    let refused = board.refusal_at(code);
+    if refused != 0 {
+        return refused;
+    }
+    let lines = board.lines;
+    unless(cell_of(&lines, code) == 0, 11)
+}
+
+// More than one Two at an empty point, and more than one real Three on the trial.
+fn double_three_at(lines: &[u16; 144], code: u8) -> bool
+    requires { ⌜ Sound (now lines) × (code < 225) ⌝ }
+    ensures { λ r. ⌜ r ≡ doubleThreeAt (cellsOf (now (lines .entry))) code ⌝ }
+{
+    if cell_of(lines, code) != 0 {
+        return false;
+    }
+    if has_multiple_starts(row_starts_on(lines, code, Player::Black, RowKind::Two)) {
+        return tried(lines, code);
+    }
+    false
+}
