@@ -2,7 +2,6 @@
 use super::cells::board_of;
 use super::starts::has_starts;
 use board::Board;
-use lists::CountAnswer;
 use lists::empty_points;
 use lists::four_eyes_on;
 use lists::neighbors;
@@ -12,6 +11,8 @@ use lists::stones;
 use records::Tally;
 use records::byte;
 use records::byte_at;
+use referee::forbidden_points;
+use rules::CountAnswer;
 ghost use Prim.Native.Nat.{_≤_};
 
 // A list that starts at a place of its record, with items of so many bytes. The masks of starts are asked where rows through a point are
@@ -40,6 +41,7 @@ fn is_whole(record: &[u8], at: u8, size: u8) -> bool {
     }
     match size {
         1 => (record.len() - first) % 2 == 0,
+        2 => (record.len() - first) % 4 == 0,
         _ => (record.len() - first) % 8 == 0,
     }
 }
@@ -66,8 +68,8 @@ fn length_of(record: &[u8], at: u8) -> usize
     if len < 3200 { len } else { 3200 }
 }
 
-// The number of items, their bytes, and no byte behind them changed. No list has the byte 255: a code is below 225, a key below 72, a start
-// below 16, and a window's mask has five bits.
+// The number of items, their bytes, and no byte behind them changed. No list has the byte 255: a code is below 225, a verdict below 4, a
+// key below 72, a start below 16, and a window's mask has five bits.
 fn is_listed(board: Board, record: &[u8], at: u8, size: u8, room: usize) -> bool
     requires { ⌜ room ≤ 3200 ⌝ }
 {
@@ -90,6 +92,7 @@ fn counts(answer: CountAnswer, len: usize, size: u8) -> bool {
 fn items_in(len: usize, size: u8) -> usize {
     match size {
         1 => len,
+        2 => len / 2,
         _ => len / 4,
     }
 }
@@ -118,6 +121,7 @@ fn ask(board: Board, record: &[u8], out: &mut [u8]) -> CountAnswer {
     let b = byte(record, 5);
     let c = byte(record, 8);
     match byte_at(record, 0) {
+        b'f' => forbidden_points(board, out),
         b'k' => stones(board, a, out),
         b'm' => empty_points(board, out),
         b'r' => rows(board, a, b, out),
@@ -142,10 +146,20 @@ fn is_list(out: &[u8; 3200], record: &[u8], at: u8) -> bool {
     true
 }
 
+// The listed byte at a place: 255 behind the list, and 254, which no list has either, where no two hex digits stand.
 fn listed_at(record: &[u8], place: usize) -> u8 {
-    if place < record.len() {
-        byte(record, place)
-    } else {
-        255
+    if record.len() <= place {
+        return 255;
+    }
+    if is_digit(byte_at(record, place)) & is_digit(byte_at(record, place + 1)) {
+        return byte(record, place);
+    }
+    254
+}
+
+fn is_digit(b: u8) -> bool {
+    match b {
+        b'0'..=b'9' | b'a'..=b'f' => true,
+        _ => false,
     }
 }

@@ -1,9 +1,10 @@
-// Replays recorded answers about boards, but for the verdicts, read from standard input: asks each question again and holds the answer to
-// the record. Writes what `records` says of a replay.
+// Replays recorded answers about boards, read from standard input: asks each question again and holds the answer to the record. Writes what
+// `records` says of a replay.
 mod boards;
 mod cells;
 mod listed;
 mod starts;
+mod verdicts;
 
 use boards::replay_board;
 use libc::STDIN_FILENO;
@@ -16,6 +17,7 @@ use records::say;
 use records::say_end;
 use records::say_tally;
 use records::shown;
+use verdicts::replay_verdicts;
 ghost use mathlib.Core.Path.{_≡_};
 ghost use lib.ListN.{length};
 
@@ -38,6 +40,9 @@ fn room() -> [u8; 262144]
 
 fn report(text: &[u8]) {
     let mut differ = say_tally(0, b'b', replay_letter(text, b'b'));
+    differ = say_tally(differ, b's', replay_letter(text, b's'));
+    differ = say_tally(differ, b'p', replay_letter(text, b'p'));
+    differ = say_tally(differ, b'f', replay_letter(text, b'f'));
     differ = say_tally(differ, b'k', replay_letter(text, b'k'));
     differ = say_tally(differ, b'm', replay_letter(text, b'm'));
     differ = say_tally(differ, b'r', replay_letter(text, b'r'));
@@ -81,6 +86,8 @@ fn replay_record(t: Tally, block: &[u8], record: &[u8], letter: u8) -> Tally {
 fn replay(t: Tally, block: &[u8], record: &[u8], letter: u8) -> Tally {
     match letter {
         b'b' => replay_board(t, record),
+        b's' | b'p' => replay_verdicts(t, block, record),
+        b'f' => replay_list(t, block, record, 2, 2),
         b'k' => replay_list(t, block, record, 5, 1),
         b'm' => replay_list(t, block, record, 2, 1),
         b'r' => replay_list(t, block, record, 8, 4),
@@ -91,12 +98,12 @@ fn replay(t: Tally, block: &[u8], record: &[u8], letter: u8) -> Tally {
     }
 }
 
-// `#` starts a comment; `s`, `p` and `f` are verdicts, and not replayed here; `?` stands for what is no letter of a record.
+// `#` starts a comment; `?` stands for what is no letter of a record.
 fn letter_of(record: &[u8]) -> u8 {
     let letter = byte_at(record, 0);
     match letter {
-        b'#' | b's' | b'p' | b'f' => letter,
-        b'b' | b'k' | b'm' | b'r' | b'o' | b'e' | b'n' => letter,
+        b'#' | b'b' | b's' | b'p' | b'f' => letter,
+        b'k' | b'm' | b'r' | b'o' | b'e' | b'n' => letter,
         _ => b'?',
     }
 }

@@ -90,8 +90,7 @@ pub fn text(files: &[(&'static str, String)]) -> String {
     out.push_str(
         "`boards.txt`, `lines.txt` and `points.txt` are links to the inputs of the\n\
          programs that replay them, `crates/replay_boards/stdin` and so on: `rt` runs a\n\
-         program on its crate's own files. The verdicts of `boards.txt`, its records\n\
-         `s`, `p` and `f`, are passed over by that program.\n\n",
+         program on its crate's own files. Every record of the three is replayed.\n\n",
     );
     out.push_str("## Counts\n\n| file | bytes | records |\n|---|---|---|\n");
     for (name, text) in files {

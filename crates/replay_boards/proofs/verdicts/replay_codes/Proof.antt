@@ -1,0 +1,42 @@
+-- `replay_boards::verdicts::replay_codes` is safe and ends: the measure is how many points are left. Assumes nothing.
+use Prim.Native.Nat.{_-_, _≤_}
+use borrow.Author.Needs.{needs}
+use Rattle.replay_boards.proofs.verdicts.replay_codes.Statement.{statement}
+use Rattle.replay_boards.proofs.verdicts.replay_codes.Tie as tie
+
+abbrev Inv-loop : tie.InvT-loop
+Inv-loop board «record» t₀ code₀ t code = code ≤ 225
+
+abbrev μ-loop : tie.MeasureT-loop
+μ-loop board «record» t₀ code₀ t code = 225 - code
+
+loop-holds : tie.Need-loop-holds Inv-loop μ-loop
+loop-holds c = search needs
+
+replay-code-requires : tie.Need-replay-code-requires Inv-loop μ-loop
+replay-code-requires c κs = search needs
+
+add-code : tie.Need-add-code Inv-loop μ-loop
+add-code c = search needs
+
+loop-less : tie.Need-loop-less Inv-loop μ-loop
+loop-less c = search needs
+
+loop-again : tie.Need-loop-again Inv-loop μ-loop
+loop-again c = search needs
+
+returns : tie.Need-returns Inv-loop μ-loop
+returns c = search needs
+
+pub replay-codes-spec : {M : Type 1} → statement M
+replay-codes-spec =
+    tie.close
+    (tie.spec
+    Inv-loop
+    μ-loop
+    loop-holds
+    replay-code-requires
+    add-code
+    loop-less
+    loop-again
+    returns)
