@@ -1,4 +1,4 @@
--- Section 5's tests as the code asks them.
+-- Section 5's tests as the code asks them. No public statement cites what is said here of masks or of lines.
 use mathlib.Core.Bool.{Bool, true, _&&_, _||_, cond}
 use mathlib.Core.List.{List}
 use Prim.Native.Nat.{ℕ, _+_, _/_, _%_}
