@@ -31,7 +31,7 @@ fn next_player(player: Player, alternate: bool) -> Player
 }
 
 // Whether a list of codes names points only: 8 where one does not.
-pub(crate) fn codes_refusal(codes: &[u8]) -> u8
+pub fn codes_refusal(codes: &[u8]) -> u8
     ensures { λ r. ⌜ r ≡ codesRefusal (now (codes .entry)) ⌝ }
 {
     let mut i = 0;

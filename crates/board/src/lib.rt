@@ -7,3 +7,4 @@ mod build;
 pub use answer::BoardAnswer;
 pub use answer::StartsAnswer;
 pub use board::Board;
+pub use build::codes_refusal;

@@ -11,7 +11,7 @@ use Rattle.rules.specs.Tools.{tab}
 use Rattle.rules.specs.Bit.{bit, maskOf}
 use Rattle.rules.specs.Line.{Stones, rowAt, through}
 use Rattle.rules.specs.Point.{xOf, yOf, cellNo, keyAt, keyDir, keyNo, keySize}
-use Rattle.rules.specs.Grid.{Change, Put, Remove, stoneAt}
+use Rattle.rules.specs.Grid.{Change, Put, Remove, stoneAt, valueOf}
 use Rattle.rules.specs.declared.Player.{Player}
 use Rattle.rules.specs.declared.Player.the-variants.{Black, White}
 use Rattle.rules.specs.declared.RowKind.{RowKind}
@@ -48,7 +48,7 @@ linesOf cells = tab 144 (entryOf cells)
 
 -- what the vertical line through p shows at p
 unfoldable pub cellOf : List ℕ → ℕ → ℕ
-cellOf l p = cond (bit (getD l (xOf p) 0) (yOf p)) 1 (cond (bit (getD l (72 + xOf p) 0) (yOf p)) 2 0)
+cellOf l p = valueOf (bit (getD l (xOf p) 0) (yOf p)) (bit (getD l (72 + xOf p) 0) (yOf p))
 
 unfoldable pub cellsOf : List ℕ → List ℕ
 cellsOf l = tab 225 (cellOf l)

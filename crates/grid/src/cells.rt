@@ -1,6 +1,6 @@
 // The 225 cells that the stored lines show, the lines of 225 cells, and whether lines are sound: those of their own cells.
 use super::store::write_on;
-use masks::bit_at;
+use masks::cell_value;
 ghost use mathlib.Core.Path.{_≡_};
 ghost use lib.ListN.{getD};
 ghost use Rattle.grid.specs.Lines.{cellOf, cellsOf, linesOf, sameList, isSound};
@@ -10,14 +10,7 @@ pub fn cell_of(lines: &[u16; 144], code: u8) -> u8
     ensures { λ r. ⌜ r ≡ cellOf (now (lines .entry)) code ⌝ }
 {
     let k = (code / 15) as usize;
-    if bit_at(lines[k], code % 15) {
-        return 1;
-    }
-    if bit_at(lines[72 + k], code % 15) {
-        2
-    } else {
-        0
-    }
+    cell_value(lines[k], lines[72 + k], code % 15)
 }
 
 // All cells, in code order.

@@ -285,7 +285,7 @@ impl Line {
     }
 
     // 10 for the size, then 9.
-    fn refusal(self) -> u8
+    pub fn refusal(self) -> u8
         ensures { λ r. ⌜ r ≡ lineRefusal self ⌝ }
     {
         first(

@@ -2,6 +2,7 @@
 ghost use mathlib.Core.Path.{_≡_};
 ghost use lib.Dec.{leb, ltb};
 ghost use Rattle.rules.specs.Bit.{bit, maskOf};
+ghost use Rattle.rules.specs.Grid.{valueOf};
 ghost use Rattle.masks.specs.Masks.{placed};
 
 // Whether bit i is set.
@@ -19,6 +20,16 @@ pub fn set_bit(m: u16, i: u8, on: bool) -> u16
         return m;
     }
     if on { m | 1 << i } else { m & !(1 << i) }
+}
+
+// The value of cell i of a line with these stones: 0 empty, 1 black, 2 white.
+pub fn cell_value(blacks: u16, whites: u16, i: u8) -> u8
+    ensures { λ r. ⌜ r ≡ valueOf (bit blacks i) (bit whites i) ⌝ }
+{
+    if bit_at(blacks, i) {
+        return 1;
+    }
+    if bit_at(whites, i) { 2 } else { 0 }
 }
 
 // The bits from `from` on.

@@ -6,6 +6,7 @@ mod bits;
 pub use bits::bit_at;
 use bits::bits_below;
 use bits::bits_from;
+pub use bits::cell_value;
 pub use bits::set_bit;
 use rules::RowKind;
 ghost use mathlib.Core.Path.{_≡_};

@@ -15,6 +15,10 @@ use Rattle.rules.specs.declared.RowKind.the-variants.{Four}
 
 -- ---- cells
 
+-- a cell's value by whether a black stone, or else a white one, stands on it
+abbrev pub valueOf : Bool → Bool → ℕ
+valueOf black white = cond black 1 (cond white 2 0)
+
 -- a cell without a stone: neither black nor white
 abbrev pub isEmpty : ℕ → Bool
 isEmpty v = not (eqb v 1) && not (eqb v 2)

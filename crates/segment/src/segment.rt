@@ -101,7 +101,7 @@ impl Segment {
     }
 
     // 9 for a segment that is not sound: it is a line of seven cells.
-    pub(crate) fn refusal(self) -> u8
+    pub fn refusal(self) -> u8
         ensures { λ r. ⌜ r ≡ segmentRefusal self ⌝ }
     {
         unless(is_sound(self.blacks as u16, self.whites as u16, 7), 9)

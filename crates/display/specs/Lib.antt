@@ -1,0 +1,3 @@
+-- What the contracts of `display` cite: the answers, and the texts.
+pub mod Answers
+pub mod Texts

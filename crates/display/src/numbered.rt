@@ -1,0 +1,71 @@
+// The numbered diagram, `to_pretty_string`: each row after its number, and the letters of the columns below.
+use super::answer::LengthAnswer;
+use super::diagram::row_into;
+use super::layout::hand_out;
+use super::layout::keep_byte;
+use super::number::number_into;
+use board::Board;
+use grid::cells_of;
+use lent::keep;
+ghost use mathlib.Core.Path.{_≡_};
+ghost use Prim.Native.Nat.{_+_, _<_, _≤_};
+ghost use lib.ListN.{length};
+ghost use Rattle.rules.specs.Tools.{gather};
+ghost use Rattle.lent.specs.Lists.{listOut, Wrote};
+ghost use Rattle.board.specs.Boards.{cells, boardRefusal};
+ghost use Rattle.display.specs.Answers.{written};
+ghost use Rattle.display.specs.Texts.{rightAligned, numberedRow, numberedOf};
+
+// 527 bytes: 9 for a board that is not sound.
+pub fn write_numbered(board: Board, out: &mut [u8]) -> LengthAnswer
+    ensures { λ r. ⌜ (r ≡ written (boardRefusal board) (now (out .entry)) (numberedOf (cells board)))
+        × (now (out .exit) ≡ listOut (boardRefusal board) (now (out .entry)) (numberedOf (cells board))) ⌝ }
+{
+    let lines = board.lines;
+    let cells = cells_of(&lines);
+    let mut bytes = [0u8; 527];
+    let n = numbered_into(&mut bytes, &cells);
+    hand_out(board.refusal(), &bytes, n, out)
+}
+
+// The rows and the letters from the front on; the next place.
+fn numbered_into(buf: &mut [u8], cells: &[u8]) -> usize
+    requires { ⌜ length (numberedOf (now cells)) ≤ length (now buf) ⌝ }
+    ensures { λ r. ⌜ Wrote (now (buf .entry)) 0 (numberedOf (now (cells .entry))) (now (buf .exit)) r ⌝ }
+{
+    let end = rows_into(buf, cells);
+    keep(buf, end, true, b"   A B C D E F G H I J K L M N O")
+}
+
+// The rows alone.
+fn rows_into(buf: &mut [u8], cells: &[u8]) -> usize
+    requires { ⌜ length (gather 15 (numberedRow (now cells))) ≤ length (now buf) ⌝ }
+    ensures { λ r. ⌜ Wrote (now (buf .entry)) 0 (gather 15 (numberedRow (now (cells .entry)))) (now (buf .exit)) r ⌝ }
+{
+    let mut n = 0usize;
+    let mut k = 0u8;
+    while k < 15 {
+        n = numbered_row_into(buf, n, cells, k);
+        k += 1;
+    }
+    n
+}
+
+// Row k from the top after its number, and byte 10.
+fn numbered_row_into(buf: &mut [u8], at: usize, cells: &[u8], k: u8) -> usize
+    requires { ⌜ (at + length (numberedRow (now cells) k) ≤ length (now buf)) × (k < 15) ⌝ }
+    ensures { λ r. ⌜ Wrote (now (buf .entry)) at (numberedRow (now (cells .entry)) k) (now (buf .exit)) r ⌝ }
+{
+    let start = right_into(buf, at, 15 - k);
+    let end = row_into(buf, start, cells, 14 - k);
+    keep_byte(buf, end, true, b'\n')
+}
+
+// A number below 100 in two places, to the right.
+fn right_into(buf: &mut [u8], at: usize, n: u8) -> usize
+    requires { ⌜ at + length (rightAligned n) ≤ length (now buf) ⌝ }
+    ensures { λ r. ⌜ Wrote (now (buf .entry)) at (rightAligned n) (now (buf .exit)) r ⌝ }
+{
+    let next = keep_byte(buf, at, n < 10, b' ');
+    number_into(buf, next, n)
+}

@@ -1,0 +1,68 @@
+-- How long the lines of a listing are, and words written into a buffer. Assumes nothing.
+use mathlib.Core.Path.{_≡_, ap, _∙_}
+use mathlib.Core.Bool.{Bool, true, false, cond}
+use mathlib.Core.List.{List, [], _∷_, _++_}
+use Prim.Native.Nat.{ℕ, _+_, _*_, _/_, _≤_}
+use native.Mathlib.Omega.{arith}
+use lib.Dec.{eqb}
+use lib.ListN.{length, take, length-append}
+use Rattle.rules.specs.Tools.{gather}
+use Rattle.lent.specs.Lists.{Wrote, keptTo, keptIn}
+use Rattle.lent.proofs.Laws.{gather-length, held-take, wrote-as}
+use Rattle.display.specs.declared.number.Word.{Word}
+use Rattle.display.specs.Answers.{wordOf}
+use Rattle.display.specs.Texts.{numberText, pointText}
+use Rattle.display.proofs.Writing.{kept, word-held}
+use Rattle.display.proofs.Sizes.{number-short, point-short}
+use Rattle.report.specs.Listing.{doubleThree, doubleFour, overline, kindText, pointLine, countText, pairText, linesText}
+use Rattle.report.specs.Listing.{forbiddenWord, listText}
+
+-- ---- lengths
+pub kind-short : (kind : ℕ) → length (kindText kind) ≤ 11
+unfolding kindText doubleThree doubleFour overline
+kind-short kind = go (eqb kind 1) (eqb kind 2)
+  where
+    go : (t u : Bool) → length (cond t doubleThree (cond u doubleFour overline)) ≤ 11
+    go true u = omega arith
+    go false true = omega arith
+    go false false = omega arith
+
+pub line-short : (kind code : ℕ) → length (pointLine kind code) ≤ 17
+unfolding pointLine
+line-short kind code =
+    let a = length-append (pointText code) (32 ∷ []) in
+    let b = length-append (pointText code ++ (32 ∷ [])) (kindText kind) in
+    let d = length-append (pointText code ++ (32 ∷ []) ++ kindText kind) (10 ∷ []) in
+    omega (arith, point-short code, kind-short kind)
+
+pub lines-short : (pairs : List ℕ) (n : ℕ) → length (gather n (pairText pairs)) ≤ n * 17
+lines-short pairs n = gather-length 17 n (pairText pairs) (λ i _. line-short _ _)
+
+pub count-short : (word : List ℕ) (n : ℕ) → length word ≤ 10 → length (countText word n) ≤ 14
+unfolding countText
+count-short word n h =
+    let a = length-append word (numberText n) in
+    let b = length-append (word ++ numberText n) (10 ∷ []) in
+    omega (arith, number-short n)
+
+-- ---- an item that fits
+module _ (item : List ℕ) {buf : List ℕ} {n r : ℕ} {buf′ : List ℕ}
+    (k : (r ≡ keptTo buf n true item) × (buf′ ≡ keptIn buf n true item)) where
+  pub put : (m : ℕ) → length item ≤ m → n + m ≤ length buf → Wrote buf n item buf′ r
+  put m short room = kept true item (omega arith) k
+
+  -- .. that is a word by value
+  pub put-word : (text : List ℕ) (w : Word) → w ≡ wordOf text → item ≡ take (w .len) (w .bytes) → length text ≤ 4 → n + 4 ≤ length buf
+      → Wrote buf n text buf′ r
+  put-word text w is e short room =
+      let same = e ∙ held-take 4 (word-held text w is) in
+      let l = ap length same in
+      wrote-as (put 4 (omega arith) room) same
+
+-- ---- the whole of a list of at most 225 pairs
+pub listing-fits : (list : List ℕ) → length list ≤ 450 → length (listText list) ≤ 3840
+unfolding listText linesText forbiddenWord
+listing-fits list h =
+    let n = length list / 2 in
+    let a = length-append (linesText list n) (countText forbiddenWord n) in
+    omega (arith, lines-short list n, count-short forbiddenWord n (omega arith))

@@ -1,0 +1,76 @@
+-- `report::lines::line_into` meets its contract: the point, a space, the kind and byte 10, one behind the other. Assumes nothing.
+use mathlib.Core.List.{[], _∷_}
+use native.Mathlib.Omega.{arith}
+use borrow.Author.Needs.{needs}
+use Rattle.lent.proofs.Laws.{wrote-same}
+use Rattle.display.proofs.Writing.{then}
+use Rattle.display.proofs.Sizes.{point-short}
+use Rattle.report.specs.Listing.{pointLine}
+use Rattle.report.proofs.Words.{kind-short, put}
+use Rattle.report.proofs.lines.line_into.Statement.{statement}
+use Rattle.report.proofs.lines.line_into.Tie as tie
+
+point-into-requires : tie.Need-point-into-requires
+point-into-requires c κs = search needs
+
+slice-aggregate-keep : tie.Need-slice-aggregate-keep
+slice-aggregate-keep c = search needs
+
+keep-requires : tie.Need-keep-requires
+keep-requires c κs = search needs
+
+kind-into-requires : tie.Need-kind-into-requires
+kind-into-requires c κs =
+    let k = c .before .before .before in
+    let p = k .before .before .before .before .before in
+    let a = p .before .before .before in
+    let x = p .point-into .ensures in
+    let l = wrote-same x in
+    let e = x .place in
+    let short = point-short (a .args .code) in
+    let y = put (32 ∷ []) (k .keep .ensures) 1 (omega arith) (omega (arith, a .pre)) in
+    let m = wrote-same y in
+    let f = y .place in
+    omega (arith, a .pre)
+
+slice-aggregate-keep-2 : tie.Need-slice-aggregate-keep-2
+slice-aggregate-keep-2 c = search needs
+
+keep-requires-2 : tie.Need-keep-requires-2
+keep-requires-2 c κs = search needs
+
+same-length : tie.Need-same-length
+same-length c = search needs
+
+returns : tie.Need-returns
+unfolding pointLine
+returns c =
+    let n = c .before .before in
+    let d = n .before .before .before .before .before in
+    let k = d .before .before .before .before in
+    let p = k .before .before .before .before .before in
+    let a = p .before .before .before in
+    let x = p .point-into .ensures in
+    let l = wrote-same x in
+    let e = x .place in
+    let short = point-short (a .args .code) in
+    let y = put (32 ∷ []) (k .keep .ensures) 1 (omega arith) (omega (arith, a .pre)) in
+    let m = wrote-same y in
+    let f = y .place in
+    let z = d .kind-into .ensures in
+    let o = wrote-same z in
+    let g = z .place in
+    then (then (then x y) z) (put (10 ∷ []) (n .keep2 .ensures) 1 (omega arith) (omega (arith, a .pre, kind-short (a .args .kind))))
+
+pub line-into-spec : {M : Type 1} → statement M
+line-into-spec =
+    tie.close
+    (tie.spec
+    point-into-requires
+    slice-aggregate-keep
+    keep-requires
+    kind-into-requires
+    slice-aggregate-keep-2
+    keep-requires-2
+    same-length
+    returns)

@@ -1,0 +1,186 @@
+-- Laws of a point in text and of a comma list, one item a turn. Assumes nothing.
+use mathlib.Core.Path.{_≡_, refl, ap, subst, sym, _∙_}
+use mathlib.Core.Bool.{true, false}
+use mathlib.Core.Logic.{_⊎_, inl, inr}
+use mathlib.Core.List.{List, [], _∷_, _++_}
+use Prim.Native.Nat.{ℕ, suc, _+_, _≤_, _<_}
+use native.Mathlib.Omega.{arith}
+use lib.Dec.{ltb}
+use lib.ListN.{length, getD, take, drop, length-drop}
+use lib.Seq.{drop-drop, take-suc, take-all}
+use borrow.Author.Tests.{eq-eqb, ne-eqb, ltb-true, ltb-false}
+use Rattle.rules.specs.Refusals.{first}
+use Rattle.rules.specs.Answers.{numberAnswer}
+use Rattle.rules.specs.declared.answer.NumberAnswer.the-variants as number
+use Rattle.rules.proofs.Logic.{decide}
+use Rattle.rules.proofs.Refusals.{given, first-none}
+use Rattle.lent.specs.Lists.{Wrote, zeros, keptTo, keptIn}
+use Rattle.lent.proofs.Laws.{wrote-none, wrote-as, wrote-keep, wrote-held, length-zeros}
+use Rattle.text.specs.Bytes.{parts, findAt, textRefusal}
+use Rattle.text.specs.Points.{oneByte, twoBytes, numberOf, columnIn, rowIn, itemAt, itemRefusal, itemCode, itemsRefusal, itemCodes}
+use Rattle.text.specs.Points.{pointsRefusal, pointsIn, pointTextRefusal, noCodes, Collected}
+use Rattle.text.specs.declared.point.Item.{Item}
+use Rattle.text.specs.declared.points.Codes.{Codes}
+use Rattle.text.proofs.Places.{parts-last, parts-cut}
+use Rattle.text.proofs.Marks.{next-in, next-is, next-rest, next-none}
+
+-- ---- a number behind a letter
+pub number-none : (s : List ℕ) → length s < 2 → numberOf (drop 1 s) ≡ 0
+unfolding numberOf
+number-none [] h = refl
+number-none (a ∷ []) h = refl
+number-none (a ∷ b ∷ s) h = omega arith
+
+pub number-one : (s : List ℕ) → length s ≡ 2 → numberOf (drop 1 s) ≡ oneByte (getD s 1 0)
+unfolding numberOf
+number-one [] h = omega arith
+number-one (a ∷ []) h = omega arith
+number-one (a ∷ b ∷ []) h = refl
+number-one (a ∷ b ∷ e ∷ s) h = omega arith
+
+pub number-two : (s : List ℕ) → 2 < length s → numberOf (drop 1 s) ≡ twoBytes (getD s 1 0) (getD s 2 0)
+unfolding numberOf
+number-two [] h = omega arith
+number-two (a ∷ []) h = omega arith
+number-two (a ∷ b ∷ []) h = omega arith
+number-two (a ∷ b ∷ e ∷ s) h = refl
+
+-- ---- a point
+module _ (s : List ℕ) (r : Item) (e : r ≡ itemAt (columnIn s) (rowIn s)) where
+  pub item-refusal : r .refused ≡ itemRefusal s
+  unfolding itemAt itemRefusal
+  item-refusal = ap (λ (i : Item). i .refused) e
+
+  pub item-code : r .refused ≡ 0 → r .code ≡ itemCode s
+  unfolding itemAt itemCode itemRefusal
+  item-code z = ap (λ (i : Item). i .code) e ∙ rw (eq-eqb (itemRefusal s) 0 (sym item-refusal ∙ z))
+
+  -- .. as it is given back, where the text may be refused
+  pub item-given : numberAnswer (first (textRefusal s) (r .refused)) (r .code) ≡ numberAnswer (pointTextRefusal s) (itemCode s)
+  unfolding numberAnswer pointTextRefusal
+  item-given =
+      let f = first (textRefusal s) (r .refused) in
+      rw (← item-refusal) (given number.Is (number.Refused f) f (r .code) (itemCode s)
+      (λ z. item-code (first-none (textRefusal s) (r .refused) z .1)))
+
+-- ---- the next part of a text parted by d: the rest behind place i, the place of the next d in it, and what stands before that
+module _ (d : ℕ) (t rest part : List ℕ) (i end : ℕ) (er : rest ≡ drop i t) (en : end ≡ findAt d rest) (ep : part ≡ take end rest) where
+  next : part ≡ take (findAt d rest) rest
+  next = ep ∙ ap (λ (k : ℕ). take k rest) en
+
+  pub part-last : length rest ≤ end → parts d (drop i t) ≡ part ∷ []
+  part-last h = rw (← er, parts-last d rest (omega arith), ← next)
+
+  pub part-more : end < length rest → parts d (drop i t) ≡ part ∷ parts d (drop (i + end + 1) t)
+  part-more h =
+      let z : i + suc end ≡ i + end + 1 = omega arith in
+      rw (← z, ← drop-drop (suc end) i t, ← er, parts-cut d rest (omega arith), ← next, ← en)
+
+  -- there is one at all
+  pub part-some : (others : List (List ℕ)) × (parts d (drop i t) ≡ part ∷ others)
+  part-some = go (decide (ltb end (length rest)))
+    where
+      go : (ltb end (length rest) ≡ true) ⊎ (ltb end (length rest) ≡ false)
+          → (others : List (List ℕ)) × (parts d (drop i t) ≡ part ∷ others)
+      go (inl y) = (parts d (drop (i + end + 1) t), part-more (ltb-true end (length rest) y))
+      go (inr y) = ([], part-last (ltb-false end (length rest) y))
+
+  -- and the text reaches so far
+  pub part-in : i ≤ length t → end < length rest → i + end + 1 ≤ length t
+  part-in h k = let n = ap length er in omega (arith, length-drop i t)
+
+-- ---- a comma list
+pub items-refused : (items others : List (List ℕ)) (item : List ℕ) → items ≡ item ∷ others → (itemRefusal item ≡ 0 → ⊥)
+    → itemsRefusal items ≡ itemRefusal item
+unfolding itemsRefusal first
+items-refused items others item e n = rw (e, ne-eqb (itemRefusal item) 0 n)
+
+pub items-more : (items others : List (List ℕ)) (item : List ℕ) → items ≡ item ∷ others → itemRefusal item ≡ 0
+    → itemsRefusal items ≡ itemsRefusal others
+unfolding itemsRefusal first
+items-more items others item e n = rw (e, eq-eqb (itemRefusal item) 0 n)
+
+pub items-none : itemsRefusal [] ≡ 0
+unfolding itemsRefusal
+items-none = refl
+
+pub codes-more : (items others : List (List ℕ)) (item : List ℕ) → items ≡ item ∷ others → itemCodes items
+    ≡ itemCode item ∷ itemCodes others
+unfolding itemCodes
+codes-more items others item e = rw e
+
+-- one code more, kept behind n others
+module _ (all : List ℕ) (n code : ℕ) (others : List ℕ) (e : drop n all ≡ code ∷ others) (room : n < 4097) where
+  pub keep-code : (buf : List ℕ) → Wrote (zeros 4097) 0 (take n all) buf n → (r : ℕ) (buf′ : List ℕ)
+      → (r ≡ keptTo buf n true (code ∷ [])) × (buf′ ≡ keptIn buf n true (code ∷ [])) → (r ≡ n + 1) × Wrote (zeros 4097) 0
+      (take (n + 1) all) buf′ (n + 1)
+  keep-code buf h r buf′ k =
+      let p = h .place in
+      let z : n + 1 ≡ suc n = omega arith in
+      let w = wrote-keep (zeros 4097) 0 (take n all) buf n true (code ∷ []) r buf′ h (omega (arith, length-zeros 4097)) k in
+      let c = take-suc all n 0 (next-in 0 all n code others e) in
+      let y : take n all ++ (code ∷ []) ≡ take (n + 1) all = rw (z, c, next-is 0 all n code others e) in
+      let v = wrote-as w y in
+      let q : r ≡ n + 1 = omega (arith, w .place, lib.ListN.length-append (take n all) (code ∷ [])) in
+      (q, subst (λ (m : ℕ). Wrote (zeros 4097) 0 (take (n + 1) all) buf′ m) q v)
+
+-- the state of the loop: n codes are kept, and the text from i on has the other items
+abbrev pub Reading : List ℕ → List ℕ → ℕ → ℕ → Type 0
+Reading t bytes n i =
+    (i ≤ length t) × (n ≤ i) × (length t ≤ 4096) × (itemsRefusal (parts 44 t) ≡ itemsRefusal (parts 44 (drop i t)))
+    × (drop n (itemCodes (parts 44 t)) ≡ itemCodes (parts 44 (drop i t))) × Wrote (zeros 4097) 0 (take n (itemCodes (parts 44 t))) bytes n
+
+-- after a turn, which kept one code more: the other items are still to be read, and none where that was the last
+pub record Turned (t : List ℕ) (others : List (List ℕ)) (n r : ℕ) (bytes : List ℕ) : Type 0 where
+  pub refusal : itemsRefusal (parts 44 t) ≡ itemsRefusal others
+  pub next : r ≡ n + 1
+  pub rest : drop r (itemCodes (parts 44 t)) ≡ itemCodes others
+  pub wrote : Wrote (zeros 4097) 0 (take r (itemCodes (parts 44 t))) bytes r
+
+module _ (t bytes : List ℕ) (n i : ℕ) (inv : Reading t bytes n i) (item : List ℕ) (others : List (List ℕ))
+    (e : parts 44 (drop i t) ≡ item ∷ others) (found : Item) (ef : found ≡ itemAt (columnIn item) (rowIn item))
+    (good : found .refused ≡ 0) (r : ℕ)
+    (bytes′ : List ℕ) (kept : (r ≡ keptTo bytes n true (found .code ∷ [])) × (bytes′ ≡ keptIn bytes n true (found .code ∷ []))) where
+  abbrev all : List ℕ
+  all = itemCodes (parts 44 t)
+
+  rest : drop n all ≡ found .code ∷ itemCodes others
+  rest =
+      inv .4 ∙ codes-more (parts 44 (drop i t)) others item e ∙ ap (λ (k : ℕ). k ∷ itemCodes others) (sym (item-code item found ef good))
+
+  kept-code : (r ≡ n + 1) × Wrote (zeros 4097) 0 (take (n + 1) all) bytes′ (n + 1)
+  kept-code = keep-code all n (found .code) (itemCodes others) rest (omega (arith, inv .0, inv .1, inv .2)) bytes (inv .5) r bytes′ kept
+
+  pub turned : Turned t others n r bytes′
+  turned =
+      record {
+        refusal = inv .3 ∙ items-more (parts 44 (drop i t)) others item e (sym (item-refusal item found ef) ∙ good);
+        next = kept-code .0;
+        rest = ap (λ (k : ℕ). drop k all) (kept-code .0) ∙ next-rest 0 all n (found .code) (itemCodes others) rest;
+        wrote = subst (λ (k : ℕ). Wrote (zeros 4097) 0 (take k all) bytes′ k) (sym (kept-code .0)) (kept-code .1);
+      }
+
+-- behind the last item all codes are kept
+pub turned-all : (t : List ℕ) (n r : ℕ) (bytes : List ℕ) → Turned t [] n r bytes → Wrote (zeros 4097) 0 (itemCodes (parts 44 t)) bytes r
+unfolding itemCodes
+turned-all t n r bytes h =
+    wrote-as (h .wrote) (take-all r (itemCodes (parts 44 t)) (next-none 0 (itemCodes (parts 44 t)) r (h .rest)))
+
+-- ---- what is given back
+pub codes-refused : (s : List ℕ) (r : Codes) (k : ℕ) → r ≡ noCodes k → (k ≡ 0 → ⊥) → k ≡ pointsRefusal s → Collected s r
+unfolding noCodes
+codes-refused s r k e n p =
+    subst (Collected s) (sym e)
+    (record {
+      refusal = p;
+      held = rw (ne-eqb (pointsRefusal s) 0 (λ z. n (p ∙ z)))
+          (wrote-held 4097 [] (zeros 4097) 0 (wrote-none (zeros 4097) 0) (omega arith));
+    })
+
+pub codes-given : (s bytes : List ℕ) (n : ℕ) → pointsRefusal s ≡ 0 → Wrote (zeros 4097) 0 (pointsIn s) bytes n → n ≤ 4097
+    → Collected s (record { refused = 0; bytes = bytes; len = n })
+codes-given s bytes n z w h =
+    record {
+      refusal = sym z;
+      held = rw (eq-eqb (pointsRefusal s) 0 z) (wrote-held 4097 (pointsIn s) bytes n w (omega (arith, w .place)));
+    }

@@ -1,0 +1,161 @@
+-- Laws of places in a text: the first byte of a sort, a text trimmed, the parts between a byte. Assumes nothing.
+use mathlib.Core.Path.{_≡_, refl, ap, sym, _∙_}
+use mathlib.Core.Bool.{Bool, true, false, not, _||_, cond}
+use mathlib.Core.List.{List, [], _∷_, _++_}
+use Prim.Native.Nat.{ℕ, zero, suc, _+_, _≤_, _<_, _-_}
+use native.Mathlib.Nat.{le-of-suc-le-suc, not-suc-le-zero}
+use native.Mathlib.Numerals.{add-one}
+use native.Mathlib.Omega.{arith}
+use lib.Dec.{eqb}
+use lib.ListN.{length, getD, take, drop, drop-of-length-le, length-drop, length-take}
+use lib.Seq.{drop-cons, drop-drop, take-suc, length-take-le}
+use Rattle.text.specs.Bytes.{space, trimStart, trimEnd, keepEnd, trim, has, before, behind, parts, ontoFirst, firstAt, findAt}
+use Rattle.text.specs.Bytes.{leading}
+
+-- ---- the first byte that passes a test, as a loop looks for it
+pub first-hit : (f : ℕ → Bool) (s : List ℕ) (i : ℕ) → i < length s → f (getD s i 0) ≡ true → i + firstAt f (drop i s) ≡ i
+unfolding firstAt
+first-hit f s i h e = rw (drop-cons s i 0 h) (rw e (omega arith))
+
+pub first-step : (f : ℕ → Bool) (s : List ℕ) (i : ℕ) → i < length s → f (getD s i 0) ≡ false
+    → i + firstAt f (drop i s) ≡ (i + 1) + firstAt f (drop (i + 1) s)
+unfolding firstAt
+first-step f s i h e = rw (add-one, drop-cons s i 0 h) (rw e (omega arith))
+
+pub first-end : (f : ℕ → Bool) (s : List ℕ) (i : ℕ) → length s ≤ i → i + firstAt f (drop i s) ≡ i
+unfolding firstAt
+first-end f s i h = rw (drop-of-length-le s h) (omega arith)
+
+-- ---- trimming
+pub trim-start : (s : List ℕ) → trimStart s ≡ drop (leading s) s
+unfolding trimStart firstAt
+trim-start [] = refl
+trim-start (b ∷ s) = go (space b) (trim-start s)
+  where
+    go : (t : Bool) → trimStart s ≡ drop (leading s) s → cond t (trimStart s) (b ∷ s) ≡ drop (cond (not t) 0 (suc (leading s))) (b ∷ s)
+    go true h = h
+    go false h = refl
+
+-- a text with one byte more at its end
+pub end-more : (s : List ℕ) (b : ℕ) → trimEnd (s ++ (b ∷ [])) ≡ cond (space b) (trimEnd s) (s ++ (b ∷ []))
+unfolding trimEnd keepEnd
+end-more [] b = refl
+end-more (a ∷ s) b = rw (end-more s b) (go (space b) s)
+  where
+    go : (t : Bool) (s : List ℕ) → keepEnd a (cond t (trimEnd s) (s ++ (b ∷ []))) ≡ cond t (keepEnd a (trimEnd s)) (a ∷ s ++ (b ∷ []))
+    go true s = refl
+    go false [] = refl
+    go false (e ∷ s) = refl
+
+pub end-take : (s : List ℕ) → trimEnd s ≡ take (length (trimEnd s)) s
+unfolding trimEnd keepEnd
+end-take [] = refl
+end-take (b ∷ s) = go (trimEnd s) (end-take s)
+  where
+    go : (t : List ℕ) → t ≡ take (length t) s → keepEnd b t ≡ take (length (keepEnd b t)) (b ∷ s)
+    go [] h = two (space b)
+      where
+        two : (t : Bool) → cond t [] (b ∷ []) ≡ take (length (cond t [] (b ∷ []))) (b ∷ s)
+        two true = refl
+        two false = refl
+    go (e ∷ t) h = ap (λ (l : List ℕ). b ∷ l) h
+
+pub end-none : length (trimEnd []) ≡ 0
+unfolding trimEnd
+end-none = refl
+
+pub trim-le : (s : List ℕ) → length (trim s) ≤ length s
+unfolding trim
+trim-le s =
+    let a = ap length (trim-start s) in
+    let b = ap length (end-take (trimStart s)) in
+    omega (arith, length-drop (leading s) s, length-take (length (trimEnd (trimStart s))) (trimStart s))
+
+-- the loop from the end: a byte of white space is passed
+pub end-step : (s : List ℕ) (i : ℕ) → 0 < i → i ≤ length s → space (getD s (i - 1) 0) ≡ true → trimEnd (take i s) ≡ trimEnd
+    (take (i - 1) s)
+end-step s zero h k e = absurd (not-suc-le-zero h)
+end-step s (suc i) h k e =
+    let z : suc i - 1 ≡ i = omega arith in
+    rw (take-suc s i 0 k, end-more) (rw z (rw (rw z at e) refl))
+
+pub end-hit : (s : List ℕ) (i : ℕ) → 0 < i → i ≤ length s → space (getD s (i - 1) 0) ≡ false → length (trimEnd (take i s)) ≡ i
+end-hit s zero h k e = absurd (not-suc-le-zero h)
+end-hit s (suc i) h k e =
+    let z : suc i - 1 ≡ i = omega arith in
+    rw (take-suc s i 0 k, end-more) (rw (rw z at e) (rw (← take-suc s i 0 k) (length-take-le (suc i) s k)))
+
+-- ---- a byte, and the parts between
+pub has-yes : (d : ℕ) (s : List ℕ) → findAt d s < length s → has d s ≡ true
+unfolding firstAt has
+has-yes d [] h = absurd (not-suc-le-zero h)
+has-yes d (b ∷ s) h = go (eqb b d) (has-yes d s) h
+  where
+    go : (t : Bool) → (findAt d s < length s → has d s ≡ true) → cond t 0 (suc (findAt d s)) < suc (length s) → (t || has d s) ≡ true
+    go true r h = refl
+    go false r h = r (le-of-suc-le-suc h)
+
+pub has-no : (d : ℕ) (s : List ℕ) → length s ≤ findAt d s → has d s ≡ false
+unfolding firstAt has
+has-no d [] h = refl
+has-no d (b ∷ s) h = go (eqb b d) (has-no d s) h
+  where
+    go : (t : Bool) → (length s ≤ findAt d s → has d s ≡ false) → suc (length s) ≤ cond t 0 (suc (findAt d s)) → (t || has d s) ≡ false
+    go true r h = absurd (not-suc-le-zero h)
+    go false r h = r (le-of-suc-le-suc h)
+
+pub before-take : (d : ℕ) (s : List ℕ) → before d s ≡ take (findAt d s) s
+unfolding firstAt before
+before-take d [] = refl
+before-take d (b ∷ s) = go (eqb b d) (before-take d s)
+  where
+    go : (t : Bool) → before d s ≡ take (findAt d s) s → cond t [] (b ∷ before d s) ≡ take (cond t 0 (suc (findAt d s))) (b ∷ s)
+    go true r = refl
+    go false r = ap (λ (l : List ℕ). b ∷ l) r
+
+pub behind-drop : (d : ℕ) (s : List ℕ) → behind d s ≡ drop (suc (findAt d s)) s
+unfolding firstAt behind
+behind-drop d [] = refl
+behind-drop d (b ∷ s) = go (eqb b d) (behind-drop d s)
+  where
+    go : (t : Bool) → behind d s ≡ drop (suc (findAt d s)) s → cond t s (behind d s) ≡ drop (suc (cond t 0 (suc (findAt d s)))) (b ∷ s)
+    go true r = refl
+    go false r = r
+
+-- the last part, and a part before another
+pub parts-last : (d : ℕ) (s : List ℕ) → length s ≤ findAt d s → parts d s ≡ take (findAt d s) s ∷ []
+unfolding firstAt parts ontoFirst
+parts-last d [] h = refl
+parts-last d (b ∷ s) h = go (eqb b d) (parts-last d s) h
+  where
+    go : (t : Bool) → (length s ≤ findAt d s → parts d s ≡ take (findAt d s) s ∷ []) → suc (length s) ≤ cond t 0 (suc (findAt d s))
+        → cond t ([] ∷ parts d s) (ontoFirst b (parts d s)) ≡ take (cond t 0 (suc (findAt d s))) (b ∷ s) ∷ []
+    go true r h = absurd (not-suc-le-zero h)
+    go false r h = rw (r (le-of-suc-le-suc h))
+
+pub parts-cut : (d : ℕ) (s : List ℕ) → findAt d s < length s → parts d s ≡ take (findAt d s) s ∷ parts d (drop (suc (findAt d s)) s)
+unfolding firstAt parts ontoFirst
+parts-cut d [] h = absurd (not-suc-le-zero h)
+parts-cut d (b ∷ s) h = go (eqb b d) (parts-cut d s) h
+  where
+    go : (t : Bool) → (findAt d s < length s → parts d s ≡ take (findAt d s) s ∷ parts d (drop (suc (findAt d s)) s))
+        → cond t 0 (suc (findAt d s)) < suc (length s)
+        → cond t ([] ∷ parts d s) (ontoFirst b (parts d s))
+        ≡ take (cond t 0 (suc (findAt d s))) (b ∷ s) ∷ parts d (drop (suc (cond t 0 (suc (findAt d s)))) (b ∷ s))
+    go true r h = refl
+    go false r h = rw (r (le-of-suc-le-suc h))
+
+-- ---- what stands before and behind the first d, as the code finds it
+pub take-le : (n : ℕ) (s : List ℕ) → length (take n s) ≤ length s
+take-le n s = omega (arith, length-take n s)
+
+pub drop-le : (n : ℕ) (s : List ℕ) → length (drop n s) ≤ length s
+drop-le n s = omega (arith, length-drop n s)
+
+pub part-before : (d n : ℕ) (s part : List ℕ) → n ≡ findAt d s → part ≡ take n s → part ≡ before d s
+part-before d n s part e p = p ∙ ap (λ (k : ℕ). take k s) e ∙ sym (before-take d s)
+
+pub part-behind : (d n : ℕ) (s from rest : List ℕ) → n ≡ findAt d s → from ≡ drop n s → rest ≡ drop 1 from → rest ≡ behind d s
+part-behind d n s from rest e p q =
+    let z : findAt d s + 1 ≡ suc (findAt d s) = omega arith in
+    q ∙ ap (drop 1) (p ∙ ap (λ (k : ℕ). drop k s) e) ∙ drop-drop 1 (findAt d s) s ∙ ap (λ (k : ℕ). drop k s) z ∙ sym (behind-drop d s)

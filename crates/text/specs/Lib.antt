@@ -1,0 +1,6 @@
+-- What the contracts of `text` cite.
+pub mod Bytes
+pub mod Points
+pub mod Lines
+pub mod Rows
+pub mod Reading
