@@ -11,6 +11,7 @@ pub mod board {
 pub mod agree;
 pub mod boards;
 pub mod cases;
+pub mod listing;
 pub mod naive;
 pub mod naive_text;
 pub mod original;

@@ -60,6 +60,9 @@ Every record starts with `SIZE BLACKS WHITES`, the line's size and two masks.
   refused with number R, 03 to 07. TEXT is the text's bytes as a list.
 - `d CELLS TEXT` the plain diagram, `D CELLS TEXT` the numbered one.
 - `y CODE TEXT` the text of a point.
+- `p TEXT 00 LIST` a text that reads as a list of points, `p TEXT R` one that
+  is refused; `P TEXT LIST` the text of a list of points.
+- `g BLACKS WHITES TEXT` a segment written as text.
 - `i TEXT SIZE BLACKS WHITES` a text that reads as a line, `i TEXT ff` one that
   is too long. `I SIZE BLACKS WHITES TEXT` a line written as text. Sizes here
   are 00 to 0f.
@@ -88,9 +91,9 @@ pub fn text(files: &[(&'static str, String)]) -> String {
     )
     .expect("a String takes all");
     out.push_str(
-        "`boards.txt`, `lines.txt` and `points.txt` are links to the inputs of the\n\
-         programs that replay them, `crates/replay_boards/stdin` and so on: `rt` runs a\n\
-         program on its crate's own files. Every record of the three is replayed.\n\n",
+        "The four files are links to the inputs of the programs that replay them,\n\
+         `crates/replay_boards/stdin` and so on: `rt` runs a program on its crate's own\n\
+         files. Every record of the four is replayed.\n\n",
     );
     out.push_str("## Counts\n\n| file | bytes | records |\n|---|---|---|\n");
     for (name, text) in files {

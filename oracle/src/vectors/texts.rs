@@ -3,6 +3,8 @@
 use super::{Records, SEED, byte, cells_field, list, mask};
 use crate::board::line::Line;
 use crate::board::player::Player::{Black, White};
+use crate::board::point::Points;
+use crate::board::segment::Segment;
 use crate::boards::{self, Dice};
 use crate::original::{self, Cells};
 use crate::texts;
@@ -24,6 +26,17 @@ pub fn text() -> String {
     }
     out.comment("lines read from text and written as text");
     lines(&mut out, &mut dice);
+    out.comment("segments written as text");
+    for _ in 0..40 {
+        segment_written(&mut out, &mut dice);
+    }
+    out.comment("lists of points written as text, and read from text");
+    for points in [0, 1, 2, 3, 10, 40, 150] {
+        list_written(&mut out, &mut dice, points);
+    }
+    for _ in 0..60 {
+        list_read(&mut out, &mut dice);
+    }
     out.0
 }
 
@@ -124,4 +137,43 @@ fn line_written(out: &mut Records, dice: &mut Dice, size: u8) {
     fields.extend(masks(&line));
     fields.push(list(line.to_string().as_bytes()));
     out.record('I', &fields);
+}
+
+/// `g`: a segment written as text.
+fn segment_written(out: &mut Records, dice: &mut Dice) {
+    let blacks = dice.roll() as u8 & 0x7f;
+    let whites = dice.roll() as u8 & 0x7f & !blacks;
+    let name = Segment::new(blacks, whites).to_string();
+    out.record('g', &[byte(blacks), byte(whites), list(name.as_bytes())]);
+}
+
+fn some_points(dice: &mut Dice, count: usize) -> Vec<u8> {
+    (0..count).map(|_| dice.below(225) as u8).collect()
+}
+
+/// `P`: a list of points written as text.
+fn list_written(out: &mut Records, dice: &mut Dice, count: usize) {
+    let codes = some_points(dice, count);
+    let points = Points(codes.iter().map(|&p| original::point(p)).collect());
+    out.record('P', &[list(points.to_string().as_bytes()), list(&codes)]);
+}
+
+/// `p`: a text read as a list of points, every third one as it was written.
+fn list_read(out: &mut Records, dice: &mut Dice) {
+    let count = 1 + dice.below(12);
+    let names = some_points(dice, count);
+    let names: Vec<String> = names
+        .iter()
+        .map(|&p| original::point(p).to_string())
+        .collect();
+    let good = names.join(dice.pick(&[",", ", ", "\t,"]));
+    let text = match dice.below(3) {
+        0 => good,
+        _ => texts::mutated(dice, &good),
+    };
+    let bytes = list(text.as_bytes());
+    match text.parse::<Points>() {
+        Ok(points) => out.record('p', &[bytes, byte(0), list(&Vec::<u8>::from(points))]),
+        Err(error) => out.record('p', &[bytes, byte(original::refusal_number(error))]),
+    }
 }

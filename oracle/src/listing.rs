@@ -1,0 +1,64 @@
+//! The listing of section 7, as the original would have it, and texts to
+//! list.
+
+use crate::boards::{self, Dice};
+use crate::naive_text::write_diagram;
+use crate::original;
+use crate::texts;
+use std::fmt::Write;
+
+const KINDS: [&str; 4] = ["", "DoubleThree", "DoubleFour", "Overline"];
+
+/// The listing of a text. Refusals 1 and 2 are the port's own: the original
+/// reads such texts.
+pub fn listing(text: &[u8]) -> String {
+    if text.len() > 4096 {
+        return refused(1);
+    }
+    if !text.is_ascii() {
+        return refused(2);
+    }
+    let text = std::str::from_utf8(text).expect("bytes below 128 are text");
+    match original::read(text) {
+        Ok(cells) => listed(&original::forbidden_list(&original::to_board(&cells))),
+        Err(number) => refused(number),
+    }
+}
+
+fn refused(number: u8) -> String {
+    format!("refused {number}\n")
+}
+
+fn listed(list: &[(u8, u8)]) -> String {
+    let mut out = String::new();
+    for &(kind, code) in list {
+        let (point, kind) = (original::point(code), KINDS[usize::from(kind)]);
+        writeln!(out, "{point} {kind}").expect("a string takes all");
+    }
+    writeln!(out, "forbidden {}", list.len()).expect("a string takes all");
+    out
+}
+
+/// A text to list: diagrams of every sort of board, lists, and both damaged;
+/// now and then a byte of 128 or more, or too many bytes.
+pub fn text(dice: &mut Dice) -> Vec<u8> {
+    let mut bytes = match dice.below(4) {
+        0 | 1 => {
+            let sort = dice.pick(&boards::SORTS);
+            write_diagram(&boards::of_sort(sort, dice)).into_bytes()
+        }
+        2 => texts::good(dice).into_bytes(),
+        _ => {
+            let good = texts::good(dice);
+            texts::mutated(dice, &good).into_bytes()
+        }
+    };
+    if dice.chance(2) {
+        let at = dice.below(bytes.len() + 1);
+        bytes.insert(at, 128 + dice.below(128) as u8);
+    }
+    if dice.chance(2) {
+        bytes.resize(4090 + dice.below(12), b' ');
+    }
+    bytes
+}
