@@ -7,10 +7,10 @@ use lib.ListN.{length}
 use Rattle.lent.specs.Lists.{listRefusal, padded}
 use Rattle.display.specs.declared.number.Word.{Word}
 use Rattle.display.specs.declared.answer.LengthAnswer.{LengthAnswer}
-use Rattle.display.specs.declared.answer.LengthAnswer.the-variants as length
+use Rattle.display.specs.declared.answer.LengthAnswer.the-variants as answer
 
 unfoldable pub lengthAnswer : ℕ → ℕ → LengthAnswer
-lengthAnswer refused n = cond (eqb refused 0) (length.Is n) (length.Refused refused)
+lengthAnswer refused n = cond (eqb refused 0) (answer.Is n) (answer.Refused refused)
 
 -- what a function answers that writes a text into a lent buffer: its arguments' refusal, 13 where the text does not fit, or its length
 unfoldable pub written : ℕ → List ℕ → List ℕ → LengthAnswer

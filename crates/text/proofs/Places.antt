@@ -152,10 +152,16 @@ take-le n s = omega (arith, length-take n s)
 pub drop-le : (n : ℕ) (s : List ℕ) → length (drop n s) ≤ length s
 drop-le n s = omega (arith, length-drop n s)
 
-pub part-before : (d n : ℕ) (s part : List ℕ) → n ≡ findAt d s → part ≡ take n s → part ≡ before d s
+part-before : (d n : ℕ) (s part : List ℕ) → n ≡ findAt d s → part ≡ take n s → part ≡ before d s
 part-before d n s part e p = p ∙ ap (λ (k : ℕ). take k s) e ∙ sym (before-take d s)
 
-pub part-behind : (d n : ℕ) (s from rest : List ℕ) → n ≡ findAt d s → from ≡ drop n s → rest ≡ drop 1 from → rest ≡ behind d s
+part-behind : (d n : ℕ) (s from rest : List ℕ) → n ≡ findAt d s → from ≡ drop n s → rest ≡ drop 1 from → rest ≡ behind d s
 part-behind d n s from rest e p q =
     let z : findAt d s + 1 ≡ suc (findAt d s) = omega arith in
     q ∙ ap (drop 1) (p ∙ ap (λ (k : ℕ). drop k s) e) ∙ drop-drop 1 (findAt d s) s ∙ ap (λ (k : ℕ). drop k s) z ∙ sym (behind-drop d s)
+
+-- what stands before the first d, and before the next one
+pub two-lists : (d n m : ℕ) (s part from rest other : List ℕ) → n ≡ findAt d s → part ≡ take n s → from ≡ drop n s → rest ≡ drop 1 from
+    → m ≡ findAt d rest → other ≡ take m rest → (part ≡ before d s) × (other ≡ before d (behind d s))
+two-lists d n m s part from rest other en ep ef er em eo =
+    (part-before d n s part en ep, part-before d m rest other em eo ∙ ap (before d) (part-behind d n s from rest en ef er))

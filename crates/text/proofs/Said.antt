@@ -1,5 +1,5 @@
 -- Laws of the boards that are given back: a refusal with the empty board, or the board that the codes of a list make. Assumes nothing.
-use mathlib.Core.Path.{_≡_, ap, sym, _∙_}
+use mathlib.Core.Path.{_≡_, ap, ap₂, sym, _∙_}
 use mathlib.Core.Bool.{_&&_}
 use mathlib.Core.List.{List, [], _∷_}
 use Prim.Native.Nat.{ℕ, zero, suc, _<_, _≤_}
@@ -14,12 +14,13 @@ use Rattle.rules.proofs.Logic.{and-left, and-right, all-intro}
 use Rattle.lent.specs.Lists.{Held}
 use Rattle.lent.proofs.Laws.{held-take, held-as}
 use Rattle.board.specs.Answers.{boardAnswer}
-use Rattle.board.specs.Boards.{codesRefusal}
+use Rattle.board.specs.Boards.{codesRefusal, stonesCells}
 use Rattle.text.specs.Bytes.{trim, parts, findAt, textRefusal}
 use Rattle.text.specs.Points.{columnIn, rowIn, placeRefusal, itemRefusal, itemCode, itemsRefusal, itemCodes, pointsRefusal}
 use Rattle.text.specs.Points.{pointsIn, Collected}
 use Rattle.text.specs.Rows.{refusedBoard}
-use Rattle.text.specs.Reading.{stonesRefusal, stonesIn, movesIn, diagramRefusal, diagramCells, formRefusal, readRefusal, readCells}
+use Rattle.text.specs.Reading.{blackList, whiteList, stonesRefusal, stonesIn, movesIn, diagramRefusal, diagramCells, formRefusal}
+use Rattle.text.specs.Reading.{readRefusal, readCells}
 use Rattle.text.specs.declared.points.Codes.{Codes}
 use Rattle.text.proofs.Places.{has-yes, has-no}
 
@@ -65,6 +66,26 @@ module _ (s : List ℕ) (r : Codes) (h : Collected s r) (z : r .refused ≡ 0) (
 
   pub codes-pass : codesRefusal codes ≡ pointsRefusal s
   codes-pass = ap codesRefusal codes-are ∙ points-good s (sym (h .refusal) ∙ z) ∙ sym (sym (h .refusal) ∙ z)
+
+-- ---- the stones of two lists
+module _ (s part other : List ℕ) (e : (part ≡ blackList s) × (other ≡ whiteList s)) (b w : Codes) (hb : Collected part b)
+    (hw : Collected other w) where
+  pub stones-told : first (b .refused) (w .refused) ≡ stonesRefusal s
+  unfolding stonesRefusal
+  stones-told = ap₂ first (hb .refusal ∙ ap pointsRefusal (e .0)) (hw .refusal ∙ ap pointsRefusal (e .1))
+
+  pub stones-said : first (b .refused) (w .refused) ≡ 0 → (blacks whites : List ℕ) → blacks ≡ take (b .len) (b .bytes)
+      → whites ≡ take (w .len) (w .bytes)
+      → boardAnswer (first (codesRefusal blacks) (codesRefusal whites)) (stonesCells blacks whites) ≡ boardAnswer (stonesRefusal s)
+      (stonesIn s)
+  unfolding stonesRefusal stonesIn
+  stones-said z blacks whites p q =
+      let n = first-none (b .refused) (w .refused) z in
+      ap₂ boardAnswer
+      (ap₂ first (codes-pass part b hb (n .0) blacks p ∙ ap pointsRefusal (e .0))
+      (codes-pass other w hw (n .1) whites q ∙ ap pointsRefusal (e .1)))
+      (ap₂ stonesCells (codes-are part b hb (n .0) blacks p ∙ ap pointsIn (e .0)) (codes-are other w hw (n .1) whites q
+      ∙ ap pointsIn (e .1)))
 
 -- ---- the refusals of any text come first
 pub text-first : (s : List ℕ) (r other : ℕ) → r ≡ textRefusal s → (r ≡ 0 → ⊥) → r ≡ first (textRefusal s) other

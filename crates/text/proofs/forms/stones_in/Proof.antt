@@ -1,19 +1,16 @@
 -- `text::forms::stones_in` meets its contract: what it calls says it. Assumes nothing.
-use mathlib.Core.Path.{ap, ap₂, sym, _∙_}
+use mathlib.Core.Path.{ap, sym, _∙_}
 use Prim.Native.Nat.{ℕ}
 use native.Mathlib.Omega.{arith}
 use denote.Ref.{now}
 use lib.ListN.{length}
 use borrow.Author.Needs.{needs}
 use Rattle.rules.specs.Refusals.{first}
-use Rattle.rules.proofs.Refusals.{first-none}
 use Rattle.board.specs.Answers.{boardAnswer}
-use Rattle.board.specs.Boards.{stonesCells}
 use Rattle.text.specs.Bytes.{before}
-use Rattle.text.specs.Points.{pointsRefusal, pointsIn}
-use Rattle.text.specs.Reading.{stonesRefusal, stonesIn}
-use Rattle.text.proofs.Places.{part-before, part-behind, take-le, drop-le}
-use Rattle.text.proofs.Said.{refused-as, codes-are, codes-pass}
+use Rattle.text.specs.Reading.{stonesIn}
+use Rattle.text.proofs.Places.{two-lists, take-le, drop-le}
+use Rattle.text.proofs.Said.{refused-as, stones-told, stones-said}
 use Rattle.text.proofs.forms.stones_in.Statement.{statement}
 use Rattle.text.proofs.forms.stones_in.Tie as tie
 
@@ -63,7 +60,6 @@ refused-board-requires : tie.Need-refused-board-requires
 refused-board-requires c κs = search needs
 
 returns : tie.Need-returns
-unfolding stonesRefusal
 returns c =
     let f = c .before .before in
     let w = f .before in
@@ -71,15 +67,12 @@ returns c =
     let r = b .before .before in
     let s = now (r .before .before .before .before .args .t) in
     let n = r .before .before .find in
-    let eb = part-before 47 (n .result) s (now (b .before .head .result)) (n .ensures) (b .before .head .ensures) in
-    let er = part-behind 47 (n .result) s (now (r .before .tail .result)) (now (r .tail2 .result)) (n .ensures) (r .before .tail .ensures)
-    (r .tail2 .ensures) in
-    let ew = part-before 47 (w .before .before .find2 .result) (now (r .tail2 .result)) (now (w .before .head2 .result))
-    (w .before .before .find2 .ensures) (w .before .head2 .ensures) ∙ ap (before 47) er in
+    let e = two-lists 47 (n .result) (w .before .before .find2 .result) s (now (b .before .head .result)) (now (r .before .tail .result))
+    (now (r .tail2 .result)) (now (w .before .head2 .result)) (n .ensures) (b .before .head .ensures) (r .before .tail .ensures)
+    (r .tail2 .ensures) (w .before .before .find2 .ensures) (w .before .head2 .ensures) in
+    let told = stones-told s _ _ e (b .codes-in .result) (w .codes-in2 .result) (b .codes-in .ensures) (w .codes-in2 .ensures) in
     c .refused-board .ensures ∙ refused-as _ (stonesIn s) (c .before .if1 .taken)
-    ∙ ap (λ (k : ℕ). boardAnswer k (stonesIn s))
-    (f .first .ensures ∙ ap₂ first (b .codes-in .ensures .refusal ∙ ap pointsRefusal eb) (w .codes-in2 .ensures .refusal
-    ∙ ap pointsRefusal ew))
+    ∙ ap (λ (k : ℕ). boardAnswer k (stonesIn s)) (f .first .ensures ∙ told)
 
 slice-aggregate-head : tie.Need-slice-aggregate-head
 slice-aggregate-head c = search needs
@@ -97,29 +90,20 @@ from-stones-requires : tie.Need-from-stones-requires
 from-stones-requires c κs = search needs
 
 returns-2 : tie.Need-returns-2
-unfolding stonesRefusal stonesIn
 returns-2 c =
-    let e = c .before .before .before .before .before .before .before in
-    let f = e .before in
+    let left = c .before .before .before .before .before .before .before in
+    let f = left .before in
     let w = f .before in
     let b = w .before .before .before in
     let r = b .before .before in
     let s = now (r .before .before .before .before .args .t) in
     let n = r .before .before .find in
-    let eb = part-before 47 (n .result) s (now (b .before .head .result)) (n .ensures) (b .before .head .ensures) in
-    let er = part-behind 47 (n .result) s (now (r .before .tail .result)) (now (r .tail2 .result)) (n .ensures) (r .before .tail .ensures)
-    (r .tail2 .ensures) in
-    let ew = part-before 47 (w .before .before .find2 .result) (now (r .tail2 .result)) (now (w .before .head2 .result))
-    (w .before .before .find2 .ensures) (w .before .head2 .ensures) ∙ ap (before 47) er in
-    let z = first-none (b .codes-in .result .refused) (w .codes-in2 .result .refused) (sym (f .first .ensures) ∙ e .if1 .left) in
-    let hb = c .before .before .before .head3 .ensures in
-    let hw = c .before .head4 .ensures in
+    let e = two-lists 47 (n .result) (w .before .before .find2 .result) s (now (b .before .head .result)) (now (r .before .tail .result))
+    (now (r .tail2 .result)) (now (w .before .head2 .result)) (n .ensures) (b .before .head .ensures) (r .before .tail .ensures)
+    (r .tail2 .ensures) (w .before .before .find2 .ensures) (w .before .head2 .ensures) in
     c .from-stones .ensures
-    ∙ ap₂ boardAnswer
-    (ap₂ first (codes-pass _ (b .codes-in .result) (b .codes-in .ensures) (z .0) _ hb ∙ ap pointsRefusal eb)
-    (codes-pass _ (w .codes-in2 .result) (w .codes-in2 .ensures) (z .1) _ hw ∙ ap pointsRefusal ew))
-    (ap₂ stonesCells (codes-are _ (b .codes-in .result) (b .codes-in .ensures) (z .0) _ hb ∙ ap pointsIn eb)
-    (codes-are _ (w .codes-in2 .result) (w .codes-in2 .ensures) (z .1) _ hw ∙ ap pointsIn ew))
+    ∙ stones-said s _ _ e (b .codes-in .result) (w .codes-in2 .result) (b .codes-in .ensures) (w .codes-in2 .ensures)
+    (sym (f .first .ensures) ∙ left .if1 .left) _ _ (c .before .before .before .head3 .ensures) (c .before .head4 .ensures)
 
 pub stones-in-spec : {M : Type 1} → statement M
 stones-in-spec =
