@@ -10,7 +10,7 @@ use native.Mathlib.Omega.{arith}
 use lib.Dec.{eqb, leb, ltb, leb→le}
 use lib.ListN.{length, getD, take, drop, List·getD-eq-default}
 use lib.Seq.{take-all, drop-cons}
-use borrow.Author.Tests.{eqb-true, lt-ltb, ltb-true, ltb-false}
+use borrow.Author.Tests.{eq-eqb, eqb-true, lt-ltb, ltb-true, ltb-false}
 use Rattle.rules.specs.Numbers.{colourNo, opponentOf}
 use Rattle.rules.specs.Refusals.{colourRefusal, kindRefusal}
 use Rattle.rules.specs.Answers.{stoneAnswer}
@@ -139,6 +139,31 @@ starts-given refused a b h =
   where
     answer : ℕ → List ℕ → StartsAnswer
     answer n l = record { refused = n; starts = l }
+
+-- ---- what an answer with a board says: its refusal, and, where that is none, a board that has these cells and refuses nothing more
+
+module _ (refused : ℕ) (c : List ℕ) (m : BoardAnswer) (e : m ≡ boardAnswer refused c) where
+  pub made-refusal : refused ≡ m .refused
+  unfolding boardAnswer
+  made-refusal = sym (ap (λ (a : BoardAnswer). a .refused) e ∙ go (decide (eqb refused 0)))
+    where
+      go : (eqb refused 0 ≡ true) ⊎ (eqb refused 0 ≡ false)
+          → (cond {A = BoardAnswer} (eqb refused 0) (record { refused = 0; board = boardOf c })
+          (record { refused = refused; board = boardOf (zeros 225) })) .refused ≡ refused
+      go (inl t) = rw t (sym (eqb-true refused 0 t))
+      go (inr t) = rw t
+
+  module _ (none : m .refused ≡ 0) where
+    pub made-board : m .board ≡ boardOf c
+    unfolding boardAnswer
+    made-board = ap (λ (a : BoardAnswer). a .board) e ∙ rw (eq-eqb refused 0 (made-refusal ∙ none))
+
+    module _ (ok : refused ≡ 0 → Cells c) where
+      pub made-sound : boardRefusal (m .board) ≡ refused
+      made-sound = ap boardRefusal made-board ∙ board-sound c (ok (made-refusal ∙ none)) ∙ sym (made-refusal ∙ none)
+
+      pub made-cells : cells (m .board) ≡ c
+      made-cells = ap cells made-board ∙ board-cells c (ok (made-refusal ∙ none))
 
 -- ---- the cells, written out
 

@@ -45,7 +45,7 @@ pub fn codes_refusal(codes: &[u8]) -> u8
 }
 
 // 9 for cell bytes of another length than 225, or with a byte over 2.
-pub(crate) fn cells_refusal(cells: &[u8]) -> u8
+pub fn cells_refusal(cells: &[u8]) -> u8
     ensures { λ r. ⌜ r ≡ cellsRefusal (now (cells .entry)) ⌝ }
 {
     if cells.len() != 225 {

@@ -7,4 +7,5 @@ mod build;
 pub use answer::BoardAnswer;
 pub use answer::StartsAnswer;
 pub use board::Board;
+pub use build::cells_refusal;
 pub use build::codes_refusal;

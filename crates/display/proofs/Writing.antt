@@ -12,7 +12,7 @@ use Rattle.rules.specs.Refusals.{first, unless}
 use Rattle.rules.specs.Tools.{gather, only}
 use Rattle.rules.proofs.Logic.{decide}
 use Rattle.lent.specs.Lists.{fits, listRefusal, listOut, keeps, keptTo, keptIn, zeros, Wrote, Held}
-use Rattle.lent.proofs.Laws.{wrote-none, wrote-keep, wrote-all, wrote-same, wrote-held, held-take, sets-laid}
+use Rattle.lent.proofs.Laws.{wrote-none, wrote-keep, wrote-all, wrote-same, wrote-held, held-take, sets-laid, kept-out}
 use Rattle.display.specs.declared.answer.LengthAnswer.{LengthAnswer}
 use Rattle.display.specs.declared.answer.LengthAnswer.the-variants as answer
 use Rattle.display.specs.declared.number.Word.{Word}
@@ -103,10 +103,10 @@ module _ {refused told : ℕ} (out text : List ℕ) (e : refused ≡ told) where
   handed size {bytes} {n} w fit k = handed-held size (wrote-held size text bytes n w fit) k
 
   pub turned-down : (refused ≡ 0 → ⊥) → (answer.Refused refused ≡ written told out text) × (out ≡ listOut told out text)
-  unfolding written lengthAnswer listOut listRefusal first
+  unfolding written lengthAnswer
   turned-down n =
-      let z = ne-eqb told 0 (λ t. n (e ∙ t)) in
-      (ap answer.Refused e ∙ rw (z, z), rw (z, z))
+      let k = kept-out told out text (λ t. n (e ∙ t)) in
+      (ap answer.Refused e ∙ rw (k .0, ne-eqb told 0 (λ t. n (e ∙ t))), k .1)
 
 -- .. that was measured first, where its arguments are not refused
 module _ {told : ℕ} (out text : List ℕ) (none : told ≡ 0) where

@@ -216,6 +216,11 @@ held-le room {l} h e =
     let n = h .count in
     omega arith
 
+-- what was refused is refused before 13, and the lent buffer keeps its bytes
+pub kept-out : (told : ℕ) (out a : List ℕ) → (told ≡ 0 → ⊥) → (listRefusal told out a ≡ told) × (out ≡ listOut told out a)
+unfolding listOut listRefusal first
+kept-out told out a n = let z = ne-eqb told 0 n in (rw (z), rw (z, z))
+
 -- a list that is held is handed out, with its count, or what was refused is given back alone; `told` is what the refusal means
 module _ (size : ℕ) {refused told : ℕ} (out a : List ℕ) (e : refused ≡ told) where
   pub handed : (room : ℕ) {from : List ℕ} {len : ℕ} {r : CountAnswer} {out′ : List ℕ} → Held room a from len
@@ -230,10 +235,10 @@ module _ (size : ℕ) {refused told : ℕ} (out a : List ℕ) (e : refused ≡ t
       )
 
   pub turned-down : (refused ≡ 0 → ⊥) → (count.Refused refused ≡ counted size told out a) × (out ≡ listOut told out a)
-  unfolding counted countAnswer listOut listRefusal first
+  unfolding counted countAnswer
   turned-down n =
-      let z = ne-eqb told 0 (λ t. n (e ∙ t)) in
-      (ap count.Refused e ∙ rw (z, z), rw (z, z))
+      let k = kept-out told out a (λ t. n (e ∙ t)) in
+      (ap count.Refused e ∙ rw (k .0, ne-eqb told 0 (λ t. n (e ∙ t))), k .1)
 
 -- the end of a function that lists: `write_out` was given a buffer that holds a
 pub list-end : (size refused : ℕ) (out a from : List ℕ) (len r : ℕ) (out′ : List ℕ) → Held size a from len

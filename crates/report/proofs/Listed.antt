@@ -1,29 +1,25 @@
 -- The list that the referee writes into a buffer with room for every point: how many pairs it has, and their lines. Assumes nothing.
 use mathlib.Core.Path.{_≡_, ap, ap₂, sym, _∙_}
-use mathlib.Core.Bool.{true, false, cond}
-use mathlib.Core.Logic.{_⊎_, inl, inr}
 use mathlib.Core.List.{List, _++_}
 use Prim.Native.Nat.{ℕ, _+_, _*_, _/_, _≤_}
 use native.Mathlib.Omega.{arith}
-use lib.Dec.{eqb}
 use lib.ListN.{length, drop, List·getD-append}
-use borrow.Author.Tests.{eq-eqb, ne-eqb, eqb-true, le-leb}
+use borrow.Author.Tests.{eq-eqb, ne-eqb, le-leb}
 use Rattle.rules.specs.Refusals.{first, unless}
 use Rattle.rules.specs.Answers.{countAnswer}
 use Rattle.rules.specs.Forbidden.{strictOf, entry, forbiddenList}
 use Rattle.rules.specs.declared.Verdict.{Verdict}
 use Rattle.rules.specs.declared.Verdict.the-variants.{None, DoubleThree, DoubleFour, Overline}
 use Rattle.rules.specs.declared.answer.CountAnswer.{CountAnswer}
-use Rattle.rules.proofs.Logic.{decide}
 use Rattle.rules.proofs.Lists.{gather-cong}
 use Rattle.lent.specs.Lists.{fits, laid, listRefusal, listOut, counted, zeros}
 use Rattle.lent.proofs.Laws.{gather-length, length-zeros}
 use Rattle.board.specs.Answers.{boardAnswer}
-use Rattle.board.specs.Boards.{cells, boardOf, boardRefusal}
-use Rattle.board.specs.declared.board.Board.{Board}
+use Rattle.board.specs.Boards.{cells, boardRefusal}
+use Rattle.board.proofs.Given.{made-refusal, made-sound, made-cells}
 use Rattle.board.specs.declared.answer.BoardAnswer.{BoardAnswer}
 use Rattle.text.specs.Reading.{readRefusal, readCells}
-use Rattle.text.proofs.Sound.{read-sound, read-cells}
+use Rattle.text.proofs.Sound.{read-ok}
 use Rattle.report.specs.Listing.{pointLine, pairText, linesText, countIn, refusedWord, countText, listText, listingOf}
 
 entry-short : (v : Verdict) (p : ℕ) → length (entry v p) ≤ 2
@@ -56,30 +52,19 @@ module _ (refused : ℕ) (list : List ℕ) (none : refused ≡ 0) (short : lengt
 
 -- ---- the listing of a text, by what reading it answered
 module _ (s : List ℕ) (r : BoardAnswer) (e : r ≡ boardAnswer (readRefusal s) (readCells s)) where
-  told : r .refused ≡ readRefusal s
-  unfolding boardAnswer
-  told = ap (λ (a : BoardAnswer). a .refused) e ∙ go (decide (eqb (readRefusal s) 0))
-    where
-      go : (eqb (readRefusal s) 0 ≡ true) ⊎ (eqb (readRefusal s) 0 ≡ false)
-          → (cond {A = BoardAnswer} (eqb (readRefusal s) 0) (record { refused = 0; board = boardOf (readCells s) })
-          (record { refused = readRefusal s; board = boardOf (zeros 225) })) .refused ≡ readRefusal s
-      go (inl t) = rw t (sym (eqb-true (readRefusal s) 0 t))
-      go (inr t) = rw t
+  told : readRefusal s ≡ r .refused
+  told = made-refusal (readRefusal s) (readCells s) r e
 
   pub listing-refused : (r .refused ≡ 0 → ⊥) → countText refusedWord (r .refused) ≡ listingOf s
   unfolding listingOf
-  listing-refused n = rw (told) (rw (ne-eqb (readRefusal s) 0 (λ z. n (told ∙ z))))
+  listing-refused n = rw (sym told) (rw (ne-eqb (readRefusal s) 0 (λ z. n (sym told ∙ z))))
 
   module _ (z : r .refused ≡ 0) where
-    said : r .board ≡ boardOf (readCells s)
-    unfolding boardAnswer
-    said = ap (λ (a : BoardAnswer). a .board) e ∙ rw (eq-eqb (readRefusal s) 0 (sym told ∙ z))
-
     pub read-good : boardRefusal (r .board) ≡ 0
-    read-good = ap boardRefusal said ∙ read-sound s
+    read-good = made-sound (readRefusal s) (readCells s) r e z (λ _. read-ok s) ∙ told ∙ z
 
     pub listing-read : listText (forbiddenList (cells (r .board))) ≡ listingOf s
     unfolding listingOf
     listing-read =
-        ap (λ (b : Board). listText (forbiddenList (cells b))) said ∙ ap (λ (l : List ℕ). listText (forbiddenList l)) (read-cells s)
-        ∙ rw (eq-eqb (readRefusal s) 0 (sym told ∙ z))
+        ap (λ (l : List ℕ). listText (forbiddenList l)) (made-cells (readRefusal s) (readCells s) r e z (λ _. read-ok s))
+        ∙ rw (eq-eqb (readRefusal s) 0 (told ∙ z))

@@ -1,0 +1,3 @@
+-- The laws of the host interface.
+pub mod Words
+pub mod Asked

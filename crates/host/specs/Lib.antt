@@ -1,0 +1,2 @@
+-- What the contracts of `host` cite beside the rules.
+pub mod Answers
