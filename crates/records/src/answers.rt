@@ -1,7 +1,8 @@
-// Whether an answer is the recorded one. A refusal never is.
+// Whether an answer is the recorded one, which a refusal never is; and the word of a refusal.
 use rules::NumberAnswer;
 use rules::StoneAnswer;
 ghost use mathlib.Core.Path.{_≡_};
+ghost use Prim.Native.Nat.{_*_};
 ghost use Rattle.records.specs.Answers.{numberIs, stoneIs};
 
 pub fn number_is(answer: NumberAnswer, recorded: u8) -> bool
@@ -22,4 +23,11 @@ pub fn stone_is(answer: StoneAnswer, colour: u8) -> bool
         StoneAnswer::Is(player) => player.number() == colour,
         StoneAnswer::Refused(_) => false,
     }
+}
+
+// What a host function answers for a refusal; for none, 0, the word of the answer 0.
+pub fn refusal_word(number: u8) -> u32
+    ensures { λ r. ⌜ r ≡ number * 65536 ⌝ }
+{
+    number as u32 * 65536
 }

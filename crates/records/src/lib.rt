@@ -5,6 +5,7 @@ mod report;
 mod tally;
 
 pub use answers::number_is;
+pub use answers::refusal_word;
 pub use answers::stone_is;
 pub use report::say;
 pub use report::say_end;

@@ -1,17 +1,7 @@
-// The cells of a board: read from the record that opens its block, and held to what a board gives.
-use board::Board;
-use board::BoardAnswer;
+// The cells of a board, read from the record that opens its block, and pages: buffers that are lent whole or in part.
 use records::byte_at;
-use records::number_is;
-use rules::NumberAnswer;
 ghost use mathlib.Core.Path.{_≡_};
 ghost use lib.ListN.{length};
-
-// The board of a block, refused where the record that opens it is not well formed.
-pub(crate) fn board_of(block: &[u8]) -> BoardAnswer {
-    let cells = cells_of(block);
-    Board::from_cells(&cells)
-}
 
 // The cell bytes of a record `b`.
 pub(crate) fn cells_of(record: &[u8]) -> [u8; 225]
@@ -42,8 +32,10 @@ fn cell_at(record: &[u8], place: usize) -> u8 {
     }
 }
 
-// The cells with another value at a point.
-pub(crate) fn with_cell(cells: [u8; 225], code: u8, value: u8) -> [u8; 225] {
+// The cells with another value at a point. With the value 3 they are no board's.
+pub(crate) fn with_cell(cells: [u8; 225], code: u8, value: u8) -> [u8; 225]
+    ensures { λ r. ⌜ 225 ≡ length r ⌝ }
+{
     let mut changed = cells;
     if code < 225 {
         changed[code as usize] = value;
@@ -51,51 +43,25 @@ pub(crate) fn with_cell(cells: [u8; 225], code: u8, value: u8) -> [u8; 225] {
     changed
 }
 
-// Whether a board was given, and has these cells.
-pub(crate) fn is_board(answer: BoardAnswer, cells: [u8; 225]) -> bool {
-    if answer.refused != 0 {
-        return false;
-    }
-    let board = answer.board;
-    has_cells(board, cells)
-}
-
-// In a buffer with a byte to spare, which keeps it.
-pub(crate) fn has_cells(board: Board, cells: [u8; 225]) -> bool {
-    let mut out = [255u8; 226];
-    let answer = board.to_cells(&mut out);
-    if number_is(answer, 225) {
-        is_cells(&out, &cells)
-    } else {
-        false
-    }
-}
-
-fn is_cells(out: &[u8; 226], cells: &[u8; 225]) -> bool {
+// A page with the cells in front and 255 behind. No answer has the byte 255: a code is below 225, a cell below 3, a verdict below 4, a key
+// below 72, a start below 16, and a window's mask has five bits.
+pub(crate) fn page_of(cells: [u8; 225]) -> [u8; 3200]
+    ensures { λ r. ⌜ 3200 ≡ length r ⌝ }
+{
+    let mut page = [255u8; 3200];
     let mut i = 0;
     while i < 225 {
-        if out[i] != cells[i] {
-            return false;
-        }
+        page[i] = cells[i];
         i += 1;
     }
-    out[225] == 255
+    page
 }
 
-// In a buffer that is a byte short: 13, and the buffer keeps its bytes.
-pub(crate) fn refuses_short(board: Board) -> bool {
-    let mut out = [255u8; 224];
-    let answer = board.to_cells(&mut out);
-    match answer {
-        NumberAnswer::Is(_) => false,
-        NumberAnswer::Refused(n) => { if n == 13 { is_kept(&out) } else { false } }
-    }
-}
-
-fn is_kept(out: &[u8; 224]) -> bool {
+// Whether two pages agree in every byte.
+pub(crate) fn same(page: &[u8; 3200], other: &[u8; 3200]) -> bool {
     let mut i = 0;
-    while i < 224 {
-        if out[i] != 255 {
+    while i < 3200 {
+        if page[i] != other[i] {
             return false;
         }
         i += 1;

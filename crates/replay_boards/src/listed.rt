@@ -1,59 +1,60 @@
-// Records that hold a list: it is asked into a buffer with room to spare, into one of just its length, and into one that is a byte short.
-use super::cells::board_of;
+// Records that hold a list: the number of its items and their bytes are recorded.
+use super::asked::Question;
+use super::asked::refuses;
+use super::asked::replay_room;
+use super::asked::replay_unsound;
+use super::cells::cells_of;
 use super::starts::has_starts;
-use board::Board;
-use lists::empty_points;
-use lists::four_eyes_on;
-use lists::neighbors;
-use lists::rows;
-use lists::rows_on;
-use lists::stones;
 use records::Tally;
 use records::byte;
 use records::byte_at;
-use referee::forbidden_points;
-use rules::CountAnswer;
 ghost use Prim.Native.Nat.{_≤_};
 
 // A list that starts at a place of its record, with items of so many bytes. The masks of starts are asked where rows through a point are
 // listed.
 pub(crate) fn replay_list(t: Tally, block: &[u8], record: &[u8], at: u8, size: u8) -> Tally {
-    let made = board_of(block);
-    if made.refused != 0 {
+    if record.len() < at as usize {
         return t.answer(false);
     }
-    if !is_whole(record, at, size) {
-        return t.answer(false);
-    }
-    let board = made.board;
-    let listed = replay_room(t, board, record, at, size);
+    let cells = cells_of(block);
+    let q = Question {
+        letter: byte_at(record, 0),
+        a: byte(record, 2),
+        b: byte(record, 5),
+        c: byte(record, 8),
+    };
+    let len = length_of(record, at);
+    let asked = replay_room(t, &cells, q, len, items_in(len, size), &page_in(record, at));
+    let listed = replay_bounds(replay_unsound(asked, cells, q), &cells, q);
     if byte_at(record, 0) == b'o' {
-        return listed.answer(has_starts(board, record));
+        return listed.answer(has_starts(cells, record));
     }
     listed
 }
 
-// Whether a record is no shorter than its fields and holds whole items.
-fn is_whole(record: &[u8], at: u8, size: u8) -> bool {
-    let first = at as usize;
-    if record.len() < first {
-        return false;
+// 225 is no code, 8, and no colour, kind or distance, 12. Both are refused before too little room is.
+fn replay_bounds(t: Tally, cells: &[u8], q: Question) -> Tally {
+    let letter = q.letter;
+    let first = Question {
+        letter,
+        a: 225,
+        b: q.b,
+        c: q.c,
+    };
+    let second = Question {
+        letter,
+        a: q.a,
+        b: 225,
+        c: q.c,
+    };
+    match letter {
+        b'f' | b'm' => t,
+        b'k' => t.answer(refuses(cells, first, 0, 12)),
+        b'r' => t.answer(refuses(cells, first, 0, 12))
+            .answer(refuses(cells, second, 0, 12)),
+        _ => t.answer(refuses(cells, first, 0, 8))
+            .answer(refuses(cells, second, 0, 12)),
     }
-    match size {
-        1 => (record.len() - first) % 2 == 0,
-        2 => (record.len() - first) % 4 == 0,
-        _ => (record.len() - first) % 8 == 0,
-    }
-}
-
-fn replay_room(t: Tally, board: Board, record: &[u8], at: u8, size: u8) -> Tally {
-    let len = length_of(record, at);
-    let listed = t.answer(is_listed(board, record, at, size, 3200))
-        .answer(is_listed(board, record, at, size, len));
-    if len == 0 {
-        return listed;
-    }
-    listed.answer(is_refused_short(board, record, len - 1))
 }
 
 // How many bytes a record's list has. No list has more than there is room for.
@@ -68,82 +69,28 @@ fn length_of(record: &[u8], at: u8) -> usize
     if len < 3200 { len } else { 3200 }
 }
 
-// The number of items, their bytes, and no byte behind them changed. No list has the byte 255: a code is below 225, a verdict below 4, a
-// key below 72, a start below 16, and a window's mask has five bits.
-fn is_listed(board: Board, record: &[u8], at: u8, size: u8, room: usize) -> bool
-    requires { ⌜ room ≤ 3200 ⌝ }
+fn items_in(len: usize, size: u8) -> u32
+    requires { ⌜ len ≤ 3200 ⌝ }
 {
-    let mut out = [255u8; 3200];
-    let answer = ask(board, record, &mut out[..room]);
-    if counts(answer, length_of(record, at), size) {
-        is_list(&out, record, at)
-    } else {
-        false
-    }
-}
-
-fn counts(answer: CountAnswer, len: usize, size: u8) -> bool {
-    match answer {
-        CountAnswer::Is(n) => n as usize == items_in(len, size),
-        CountAnswer::Refused(_) => false,
-    }
-}
-
-fn items_in(len: usize, size: u8) -> usize {
+    let bytes = len as u32;
     match size {
-        1 => len,
-        2 => len / 2,
-        _ => len / 4,
+        1 => bytes,
+        2 => bytes / 2,
+        _ => bytes / 4,
     }
 }
 
-// 13, and the buffer keeps its bytes.
-fn is_refused_short(board: Board, record: &[u8], room: usize) -> bool
-    requires { ⌜ room ≤ 3200 ⌝ }
-{
-    let mut out = [255u8; 3200];
-    let answer = ask(board, record, &mut out[..room]);
-    match answer {
-        CountAnswer::Is(_) => false,
-        CountAnswer::Refused(n) => {
-            if n == 13 {
-                is_list(&out, b"", 0)
-            } else {
-                false
-            }
-        }
-    }
-}
-
-// What a record's letter and fields ask.
-fn ask(board: Board, record: &[u8], out: &mut [u8]) -> CountAnswer {
-    let a = byte(record, 2);
-    let b = byte(record, 5);
-    let c = byte(record, 8);
-    match byte_at(record, 0) {
-        b'f' => forbidden_points(board, out),
-        b'k' => stones(board, a, out),
-        b'm' => empty_points(board, out),
-        b'r' => rows(board, a, b, out),
-        b'o' => rows_on(board, a, b, c, out),
-        b'e' => four_eyes_on(board, a, b, out),
-        b'n' => neighbors(board, a, b, c == 1, out),
-        _ => CountAnswer::Refused(0),
-    }
-}
-
-// Whether a record's list stands in front, and 255 behind it.
-fn is_list(out: &[u8; 3200], record: &[u8], at: u8) -> bool {
+// A page with the list in front.
+fn page_in(record: &[u8], at: u8) -> [u8; 3200] {
+    let mut page = [255u8; 3200];
     let mut i = 0usize;
     let mut place = at as usize;
     while i < 3200 {
-        if out[i] != listed_at(record, place) {
-            return false;
-        }
+        page[i] = listed_at(record, place);
         i += 1;
         place += 2;
     }
-    true
+    page
 }
 
 // The listed byte at a place: 255 behind the list, and 254, which no list has either, where no two hex digits stand.

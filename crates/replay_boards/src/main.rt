@@ -1,10 +1,13 @@
 // Replays recorded answers about boards, read from standard input: asks each question again and holds the answer to the record. Writes what
 // `records` says of a replay.
+mod asked;
 mod boards;
 mod cells;
+mod changes;
 mod listed;
 mod starts;
 mod verdicts;
+mod views;
 
 use boards::replay_board;
 use libc::STDIN_FILENO;

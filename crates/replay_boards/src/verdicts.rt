@@ -1,93 +1,84 @@
 // Records that hold a verdict for every point: `s` the strict ones, `p` the plain ones.
-use super::cells::board_of;
+use super::cells::cells_of;
+use super::cells::with_cell;
 use board::Board;
+use host::renju_forbidden;
+use host::renju_forbidden_strict;
 use records::Tally;
 use records::byte_at;
-use referee::VerdictAnswer;
-use referee::forbidden;
-use referee::forbidden_strict;
+use records::refusal_word;
 use referee::is_double_three;
 use rules::TestAnswer;
+use text::head;
 
-// A verdict of each code, and one code that is no point's.
+// The verdict of every code. Cells that are no board's are refused, before a code is. Beside the plain verdicts also whether a double three
+// is there, asked alone.
 pub(crate) fn replay_verdicts(t: Tally, block: &[u8], record: &[u8]) -> Tally {
-    let made = board_of(block);
-    if made.refused != 0 {
-        return t.answer(false);
-    }
+    let cells = cells_of(block);
+    let spoilt = with_cell(cells, 224, 3);
     if record.len() != 227 {
         return t.answer(false);
     }
-    let board = made.board;
-    let outside = is_refused(ask(board, record, 225), 8);
-    replay_codes(t.answer(outside), board, record)
-}
-
-fn replay_codes(before: Tally, board: Board, record: &[u8]) -> Tally {
-    let mut t = before;
-    let mut code = 0u8;
-    while code < 225 {
-        t = replay_code(t, board, record, code);
-        code += 1;
-    }
-    t
-}
-
-// The verdict that the record has there; beside the plain one also whether a double three is there, asked alone.
-fn replay_code(t: Tally, board: Board, record: &[u8], code: u8) -> Tally {
-    let written = byte_at(record, code as usize + 2);
-    let asked = t.answer(is_written(ask(board, record, code), written));
+    let asked = replay_codes(t, &cells, record)
+        .answer(ask(&spoilt, record, 0) == refusal_word(9))
+        .answer(ask(head(&cells, 224), record, 225) == refusal_word(9));
     match byte_at(record, 0) {
-        b'p' => replay_double(asked, is_double_three(board, code), written),
+        b'p' => replay_doubles(asked, &cells, record),
         _ => asked,
     }
 }
 
+fn replay_codes(before: Tally, cells: &[u8], record: &[u8]) -> Tally {
+    let mut t = before;
+    for code in 0u8..=255 {
+        t = t.answer(ask(cells, record, code) == word_at(record, code));
+    }
+    t
+}
+
 // What a record's letter asks of a code.
-fn ask(board: Board, record: &[u8], code: u8) -> VerdictAnswer {
+fn ask(cells: &[u8], record: &[u8], code: u8) -> u32 {
     match byte_at(record, 0) {
-        b's' => forbidden_strict(board, code),
-        _ => forbidden(board, code),
+        b's' => renju_forbidden_strict(cells, code),
+        _ => renju_forbidden(cells, code),
     }
 }
 
-// `-` stands for a point that is refused as occupied.
-fn is_written(answer: VerdictAnswer, written: u8) -> bool {
-    if written == b'-' {
-        is_refused(answer, 11)
-    } else {
-        is_verdict(answer, number_of(written))
+// The word that a record has for a code: the verdict, or, for `-`, that a stone is there. 4, which is no verdict, for any other character.
+// Past the board there is no point.
+fn word_at(record: &[u8], code: u8) -> u32 {
+    if 224 < code {
+        return refusal_word(8);
     }
-}
-
-fn is_refused(answer: VerdictAnswer, number: u8) -> bool {
-    match answer {
-        VerdictAnswer::Is(_) => false,
-        VerdictAnswer::Refused(n) => n == number,
-    }
-}
-
-fn is_verdict(answer: VerdictAnswer, number: u8) -> bool {
-    match answer {
-        VerdictAnswer::Is(verdict) => verdict.number() == number,
-        VerdictAnswer::Refused(_) => false,
-    }
-}
-
-// The number that a digit stands for; 4, which is no verdict's, for any other character.
-fn number_of(written: u8) -> u8 {
-    match written {
-        b'0'..=b'3' => written - 48,
+    match byte_at(record, code as usize + 2) {
+        b'0' => 0,
+        b'1' => 1,
+        b'2' => 2,
+        b'3' => 3,
+        b'-' => refusal_word(11),
         _ => 4,
     }
 }
 
+fn replay_doubles(before: Tally, cells: &[u8], record: &[u8]) -> Tally {
+    let made = Board::from_cells(cells);
+    if made.refused != 0 {
+        return before.answer(false);
+    }
+    let board = made.board;
+    let mut t = before;
+    for code in 0u8..225 {
+        t = replay_double(t, is_double_three(board, code), word_at(record, code));
+    }
+    t
+}
+
 // Where the plain verdict is a double three, it is one; where it is none, or a stone is there, not. A kind that comes before hides it.
-fn replay_double(t: Tally, answer: TestAnswer, written: u8) -> Tally {
-    match written {
-        b'1' => t.answer(is_test(answer, true)),
-        b'0' | b'-' => t.answer(is_test(answer, false)),
-        _ => t,
+fn replay_double(t: Tally, answer: TestAnswer, verdict: u32) -> Tally {
+    match verdict {
+        1 => t.answer(is_test(answer, true)),
+        2 | 3 => t,
+        _ => t.answer(is_test(answer, false)),
     }
 }
 

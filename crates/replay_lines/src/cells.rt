@@ -1,6 +1,6 @@
 // Records about a cell of a line: the rows through it, as masks and as lists in lent buffers; and the lists of a whole line.
-use super::answers::mask_is;
 use super::answers::segment_is;
+use super::asked::starts_on;
 use super::fields::colour_of;
 use super::fields::kind_of;
 use super::fields::line_of;
@@ -31,7 +31,7 @@ pub(crate) fn replay_cell(before: Tally, record: &[u8]) -> Tally {
 
 // The mask, then the list: in a buffer of just its length, and in one that is a byte short.
 fn replay_rows_on(t: Tally, line: Line, cell: u8, colour: u8, kind: u8, starts: u16) -> Tally {
-    let listed = t.answer(mask_is(line.row_starts_on(cell, colour, kind), starts))
+    let listed = t.answer(starts_on(line, colour, kind, cell) == starts as u32)
         .answer(is_listed(line, cell, colour, kind, starts));
     if starts == 0 {
         return listed;

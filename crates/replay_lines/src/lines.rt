@@ -1,6 +1,9 @@
 // Records about a whole line: its rows and eyes, its stones, and the masks for a number of stones.
 use super::answers::line_is;
 use super::answers::mask_is;
+use super::asked::eyes_of;
+use super::asked::replay_refusals;
+use super::asked::starts_of;
 use super::cells::lists_rows;
 use super::cells::lists_segments;
 use super::fields::colour_of;
@@ -22,7 +25,7 @@ pub(crate) fn replay_line(t: Tally, record: &[u8]) -> Tally {
     let rows = replay_rows(t, line, record);
     let bounds = rows.answer(number_is(line.score_bound(1), byte(record, 175)))
         .answer(number_is(line.score_bound(2), byte(record, 178)));
-    replay_stones(bounds, line)
+    replay_refusals(replay_stones(bounds, line), line)
 }
 
 // `q`: the masks for a colour and a number of stones.
@@ -57,9 +60,9 @@ fn replay_kind(t: Tally, line: Line, record: &[u8], k: u8) -> Tally {
     let colour = colour_of(k);
     let kind = kind_of(k);
     let starts = mask_of(record, 15, k);
-    t.answer(mask_is(line.row_starts(colour, kind), starts))
+    t.answer(starts_of(line, colour, kind) == starts as u32)
         .answer(lists_rows(line, colour, kind, starts))
-        .answer(mask_is(line.row_eyes(colour, kind), mask_of(record, 95, k)))
+        .answer(eyes_of(line, colour, kind) == mask_of(record, 95, k) as u32)
 }
 
 // The line as masks, cell by cell, made stone by stone and taken apart again.

@@ -2,6 +2,7 @@
 use super::answers::score_is;
 use super::answers::segment_is;
 use super::answers::test_is;
+use super::asked::starts_of;
 use super::fields::colour_of;
 use super::fields::kind_of;
 use super::fields::line_of;
@@ -11,7 +12,6 @@ use masks::bit_at;
 use records::Tally;
 use records::byte;
 use records::number_is;
-use rules::MaskAnswer;
 use rules::TestAnswer;
 use segment::Before;
 use segment::Segment;
@@ -63,7 +63,7 @@ fn replay_kinds(before: Tally, line: Line, j: u8, prev: Before, segment: Segment
     let mut k = 0u8;
     while k < 16 {
         let matched = matches(colour_of(k), kind_of(k), prev, segment);
-        let starts = line.row_starts(colour_of(k), kind_of(k));
+        let starts = starts_of(line, colour_of(k), kind_of(k));
         t = t.answer(starts_as(starts, j, matched));
         k += 1;
     }
@@ -71,12 +71,12 @@ fn replay_kinds(before: Tally, line: Line, j: u8, prev: Before, segment: Segment
 }
 
 // Whether the mask of starts has bit j just where the segments match.
-fn starts_as(starts: MaskAnswer, j: u8, matched: TestAnswer) -> bool {
-    match starts {
-        MaskAnswer::Is(m) => match matched {
-            TestAnswer::Is(passed) => bit_at(m, j) == passed,
-            TestAnswer::Refused(_) => false,
-        },
-        MaskAnswer::Refused(_) => false,
+fn starts_as(starts: u32, j: u8, matched: TestAnswer) -> bool {
+    if 65535 < starts {
+        return false;
+    }
+    match matched {
+        TestAnswer::Is(passed) => bit_at(starts as u16, j) == passed,
+        TestAnswer::Refused(_) => false,
     }
 }

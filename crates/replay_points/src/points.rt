@@ -1,4 +1,5 @@
-// Records about points: their lines and cells, the keys of lines, and the points at cells. Each is asked past its bounds too.
+// Records about points: their lines and cells, the keys of lines, and the points at cells. Each is asked past its bounds too, and each
+// point in the eight views.
 use super::answers::index_is;
 use super::answers::index_refused;
 use super::answers::key_is;
@@ -8,6 +9,7 @@ use super::answers::offset_is;
 use super::answers::offset_none;
 use super::answers::point_is;
 use super::answers::point_refused;
+use host::renju_turn_point;
 use point::Index;
 use point::Place;
 use point::Point;
@@ -15,9 +17,11 @@ use point::PointAnswer;
 use point::address;
 use point::line_from_key;
 use point::line_key;
+use point::undone;
 use records::Tally;
 use records::byte;
 use records::number_is;
+use records::refusal_word;
 
 // `a`: the line through a point, the point's cell, the line's last cell and its key are recorded.
 pub(crate) fn replay_address(t: Tally, record: &[u8]) -> Tally {
@@ -32,7 +36,11 @@ pub(crate) fn replay_address(t: Tally, record: &[u8]) -> Tally {
     let line = replay_point(t, code, index)
         .answer(key_is(line_key(index.d, index.i), key))
         .answer(place_is(address(index.d, code), key, index.j));
-    replay_steps(replay_index(line, index, last, code), index, last)
+    replay_turns(
+        replay_steps(replay_index(line, index, last, code), index, last),
+        code,
+        index.d,
+    )
 }
 
 // The point of a code, and the line through it in a direction.
@@ -46,6 +54,26 @@ fn replay_point(t: Tally, code: u8, index: Index) -> Tally {
             .answer(index_refused(point.to_index(4), 12)),
         PointAnswer::Refused(_) => refused.answer(false),
     }
+}
+
+// Each direction's record asks two of the eight views, so every point is asked about in every view.
+fn replay_turns(t: Tally, code: u8, d: u8) -> Tally {
+    if 3 < d {
+        return t.answer(false);
+    }
+    t.answer(turns(code, d)).answer(turns(code, d + 4))
+}
+
+// The undoing view sends the point back. There is no point 225 and no view 8; the point is looked at first.
+fn turns(code: u8, view: u8) -> bool {
+    let to = renju_turn_point(code, view);
+    if 224 < to {
+        return false;
+    }
+    (renju_turn_point(to as u8, undone(view)) == code as u32)
+        & (renju_turn_point(code, 8) == refusal_word(12))
+        & (renju_turn_point(225, view) == refusal_word(8))
+        & (renju_turn_point(255, 8) == refusal_word(8))
 }
 
 // The address where its line is stored, which is recorded by the key.

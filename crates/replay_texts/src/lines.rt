@@ -4,9 +4,10 @@ use super::bytes::bytes_in;
 use super::bytes::bytes_of;
 use super::fields::rest_of;
 use super::fields::text_in;
-use super::writing::is_refused;
-use super::writing::refuses;
+use super::words::is_told;
+use super::words::length_word;
 use super::writing::replay_room;
+use super::writing::writes;
 use display::write_line;
 use display::write_segment;
 use line::Line;
@@ -35,7 +36,7 @@ pub(crate) fn replay_line(t: Tally, record: &[u8]) -> Tally {
     if 5 <= line.size {
         return replay_room(read, record);
     }
-    read.answer(refuses(record, 600, 10))
+    read.answer(writes(record, 600, 10))
         .answer(is_front(line, digits))
 }
 
@@ -44,7 +45,7 @@ pub(crate) fn replay_segment(t: Tally, record: &[u8]) -> Tally {
     let segment = segment_of(record);
     let mut out = [255u8; 600];
     let answer = write_segment(Segment::new(segment.blacks | 128, segment.whites), &mut out);
-    replay_room(t, record).answer(is_refused(answer, 9, &out))
+    replay_room(t, record).answer(is_told(length_word(answer), 9, b"", &out))
 }
 
 // The segment whose masks are a record's fields.

@@ -6,6 +6,7 @@ mod fields;
 mod lines;
 mod points;
 mod reading;
+mod words;
 mod writing;
 
 use fields::is_whole;

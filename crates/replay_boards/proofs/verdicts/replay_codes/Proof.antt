@@ -1,20 +1,26 @@
--- `replay_boards::verdicts::replay_codes` is safe and ends: the measure is how many points are left. Assumes nothing.
+-- `replay_boards::verdicts::replay_codes` is safe and ends: the measure is how many codes are left. Assumes nothing.
 use Prim.Native.Nat.{_-_, _≤_}
 use borrow.Author.Needs.{needs}
 use Rattle.replay_boards.proofs.verdicts.replay_codes.Statement.{statement}
 use Rattle.replay_boards.proofs.verdicts.replay_codes.Tie as tie
 
 abbrev Inv-loop : tie.InvT-loop
-Inv-loop board «record» t₀ code₀ t code = code ≤ 225
+Inv-loop cells «record» t₀ code₀ t code = code ≤ 255
 
 abbrev μ-loop : tie.MeasureT-loop
-μ-loop board «record» t₀ code₀ t code = 225 - code
+μ-loop cells «record» t₀ code₀ t code = 255 - code
 
 loop-holds : tie.Need-loop-holds Inv-loop μ-loop
 loop-holds c = search needs
 
-replay-code-requires : tie.Need-replay-code-requires Inv-loop μ-loop
-replay-code-requires c κs = search needs
+ask-requires : tie.Need-ask-requires Inv-loop μ-loop
+ask-requires c κs = search needs
+
+word-at-requires : tie.Need-word-at-requires Inv-loop μ-loop
+word-at-requires c κs = search needs
+
+answer-requires : tie.Need-answer-requires Inv-loop μ-loop
+answer-requires c κs = search needs
 
 add-code : tie.Need-add-code Inv-loop μ-loop
 add-code c = search needs
@@ -28,6 +34,9 @@ loop-again c = search needs
 returns : tie.Need-returns Inv-loop μ-loop
 returns c = search needs
 
+returns-2 : tie.Need-returns-2 Inv-loop μ-loop
+returns-2 c = search needs
+
 pub replay-codes-spec : {M : Type 1} → statement M
 replay-codes-spec =
     tie.close
@@ -35,8 +44,11 @@ replay-codes-spec =
     Inv-loop
     μ-loop
     loop-holds
-    replay-code-requires
+    ask-requires
+    word-at-requires
+    answer-requires
     add-code
     loop-less
     loop-again
-    returns)
+    returns
+    returns-2)

@@ -28,8 +28,8 @@ colour-of-requires-2 c κs = search needs
 kind-of-requires-2 : tie.Need-kind-of-requires-2 Inv-loop μ-loop
 kind-of-requires-2 c κs = search needs
 
-row-starts-requires : tie.Need-row-starts-requires Inv-loop μ-loop
-row-starts-requires c κs = search needs
+starts-of-requires : tie.Need-starts-of-requires Inv-loop μ-loop
+starts-of-requires c κs = search needs
 
 starts-as-requires : tie.Need-starts-as-requires Inv-loop μ-loop
 starts-as-requires c κs = search needs
@@ -61,7 +61,7 @@ replay-kinds-spec =
     matches-requires
     colour-of-requires-2
     kind-of-requires-2
-    row-starts-requires
+    starts-of-requires
     starts-as-requires
     answer-requires
     add-k

@@ -7,10 +7,10 @@ use Rattle.replay_texts.proofs.cells.cells_of.Statement.{statement}
 use Rattle.replay_texts.proofs.cells.cells_of.Tie as tie
 
 abbrev Inv-loop : tie.InvT-loop
-Inv-loop field refused cells₀ i₀ cells i = (i ≤ 225) × (225 ≡ length cells)
+Inv-loop field cells₀ i₀ cells i = (i ≤ 225) × (225 ≡ length cells)
 
 abbrev μ-loop : tie.MeasureT-loop
-μ-loop field refused cells₀ i₀ cells i = 225 - i
+μ-loop field cells₀ i₀ cells i = 225 - i
 
 loop-holds : tie.Need-loop-holds Inv-loop μ-loop
 loop-holds c = search needs

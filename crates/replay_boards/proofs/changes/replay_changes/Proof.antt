@@ -1,14 +1,14 @@
--- `replay_boards::boards::replay_changes` is safe and ends: the measure is how many points are left. Assumes nothing.
+-- `replay_boards::changes::replay_changes` is safe and ends: the measure is how many codes are left. Assumes nothing.
 use Prim.Native.Nat.{_-_, _≤_}
 use borrow.Author.Needs.{needs}
-use Rattle.replay_boards.proofs.boards.replay_changes.Statement.{statement}
-use Rattle.replay_boards.proofs.boards.replay_changes.Tie as tie
+use Rattle.replay_boards.proofs.changes.replay_changes.Statement.{statement}
+use Rattle.replay_boards.proofs.changes.replay_changes.Tie as tie
 
 abbrev Inv-loop : tie.InvT-loop
-Inv-loop board cells t₀ code₀ t code = code ≤ 232
+Inv-loop cells t₀ code₀ t code = code ≤ 255
 
 abbrev μ-loop : tie.MeasureT-loop
-μ-loop board cells t₀ code₀ t code = 232 - code
+μ-loop cells t₀ code₀ t code = 255 - code
 
 loop-holds : tie.Need-loop-holds Inv-loop μ-loop
 loop-holds c = search needs

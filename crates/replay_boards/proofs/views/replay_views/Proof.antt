@@ -1,26 +1,29 @@
--- `replay_boards::boards::replay_views` is safe and ends: the measure is how many views are left. Assumes nothing.
+-- `replay_boards::views::replay_views` is safe and ends: the measure is how many views are left. Assumes nothing.
 use Prim.Native.Nat.{_-_, _≤_}
 use borrow.Author.Needs.{needs}
-use Rattle.replay_boards.proofs.boards.replay_views.Statement.{statement}
-use Rattle.replay_boards.proofs.boards.replay_views.Tie as tie
+use Rattle.replay_boards.proofs.views.replay_views.Statement.{statement}
+use Rattle.replay_boards.proofs.views.replay_views.Tie as tie
 
 abbrev Inv-loop : tie.InvT-loop
-Inv-loop board cells t₀ view₀ t view = view ≤ 8
+Inv-loop cells t₀ view₀ t view = view ≤ 8
 
 abbrev μ-loop : tie.MeasureT-loop
-μ-loop board cells t₀ view₀ t view = 8 - view
+μ-loop cells t₀ view₀ t view = 8 - view
 
-turned-requires : tie.Need-turned-requires Inv-loop μ-loop
-turned-requires c κs = search needs
+slice-aggregate-refuses : tie.Need-slice-aggregate-refuses Inv-loop μ-loop
+slice-aggregate-refuses c = search needs
+
+turn-requires : tie.Need-turn-requires Inv-loop μ-loop
+turn-requires c κs = search needs
+
+refuses-requires : tie.Need-refuses-requires Inv-loop μ-loop
+refuses-requires c κs = search needs
 
 answer-requires : tie.Need-answer-requires Inv-loop μ-loop
 answer-requires c κs = search needs
 
 loop-holds : tie.Need-loop-holds Inv-loop μ-loop
 loop-holds c = search needs
-
-turned-requires-2 : tie.Need-turned-requires-2 Inv-loop μ-loop
-turned-requires-2 c κs = search needs
 
 replay-view-requires : tie.Need-replay-view-requires Inv-loop μ-loop
 replay-view-requires c κs = search needs
@@ -43,10 +46,11 @@ replay-views-spec =
     (tie.spec
     Inv-loop
     μ-loop
-    turned-requires
+    slice-aggregate-refuses
+    turn-requires
+    refuses-requires
     answer-requires
     loop-holds
-    turned-requires-2
     replay-view-requires
     add-view
     loop-less
