@@ -1,0 +1,146 @@
+//! Finds the archive of the proved functions, or has `rt` write it, and links it.
+//!
+//! The archive is the file that `RENJU_ARCHIVE` names, else the repository's own, which must not be
+//! older than the code that it was compiled from.
+
+use std::env;
+use std::fs;
+use std::io::ErrorKind;
+use std::path::{Path, PathBuf};
+use std::process::{self, Command};
+use std::time::SystemTime;
+
+/// What the archive is called; the linker looks for it by this name.
+const FILE: &str = "libhost.a";
+
+fn main() {
+    println!("cargo:rerun-if-env-changed=RENJU_ARCHIVE");
+    if let Err(message) = find().and_then(|archive| link(&archive)) {
+        eprintln!("renju: {message}");
+        process::exit(1);
+    }
+}
+
+fn find() -> Result<PathBuf, String> {
+    let arch = variable("CARGO_CFG_TARGET_ARCH")?;
+    let os = variable("CARGO_CFG_TARGET_OS")?;
+    if arch != "x86_64" || os != "linux" {
+        return Err(format!(
+            "the target is {arch}, {os}, but the archive {FILE} is for x86-64 Linux"
+        ));
+    }
+    match env::var_os("RENJU_ARCHIVE") {
+        Some(path) => named(PathBuf::from(path)),
+        None => own(&Path::new(&variable("CARGO_MANIFEST_DIR")?).join("..")),
+    }
+}
+
+fn variable(name: &str) -> Result<String, String> {
+    env::var(name).map_err(|error| format!("{name}: {error}"))
+}
+
+/// The archive that `RENJU_ARCHIVE` names: the caller answers for its age.
+fn named(archive: PathBuf) -> Result<PathBuf, String> {
+    let shown = archive.display();
+    if !archive.is_file() {
+        return Err(format!("RENJU_ARCHIVE names {shown}, which is no file"));
+    }
+    if archive.file_name().is_none_or(|name| name != FILE) {
+        return Err(format!(
+            "RENJU_ARCHIVE names {shown}; the file must be called {FILE}"
+        ));
+    }
+    Ok(archive)
+}
+
+/// The repository's archive, written anew where it is absent or stale.
+fn own(root: &Path) -> Result<PathBuf, String> {
+    let archive = root.join("target/staticlib").join(FILE);
+    let sources = sources(root);
+    for source in &sources {
+        println!("cargo:rerun-if-changed={}", source.display());
+    }
+    let newest = sources.iter().filter_map(|source| newest(source)).max();
+    let written = changed(&archive);
+    if written.is_some() && written >= newest {
+        return Ok(archive);
+    }
+    if !run_rt(root)? {
+        if written.is_none() {
+            return Err(format!(
+                "there is no {FILE} at {}, and no `rt` on PATH to write it. Install the Rattle \
+                 toolchain so that `rt` is on PATH, or set RENJU_ARCHIVE to a {FILE}",
+                archive.display()
+            ));
+        }
+        println!(
+            "cargo:warning={} is older than the code under crates/, and there is no `rt` on PATH \
+             to write it anew; the old one is linked",
+            archive.display()
+        );
+    }
+    Ok(archive)
+}
+
+/// What the archive is compiled from: the list of crates, and their code.
+fn sources(root: &Path) -> Vec<PathBuf> {
+    let mut sources = vec![root.join("crates.txt")];
+    sources.extend(entries(&root.join("crates")).map(|name| name.join("src")));
+    sources.retain(|source| source.exists());
+    sources
+}
+
+fn entries(folder: &Path) -> impl Iterator<Item = PathBuf> {
+    let entries = fs::read_dir(folder).into_iter().flatten();
+    entries.flatten().map(|entry| entry.path())
+}
+
+fn changed(path: &Path) -> Option<SystemTime> {
+    fs::metadata(path).and_then(|data| data.modified()).ok()
+}
+
+/// When something at or below a path last changed. A folder counts too: its
+/// own time tells of a file that was taken away.
+fn newest(path: &Path) -> Option<SystemTime> {
+    let below = entries(path).filter_map(|entry| newest(&entry)).max();
+    changed(path).max(below)
+}
+
+/// Has `rt` prove and compile the archive; false where there is no `rt`.
+fn run_rt(root: &Path) -> Result<bool, String> {
+    let mut command = Command::new("rt");
+    let output = match command
+        .args(["staticlib", "host"])
+        .current_dir(root)
+        .output()
+    {
+        Ok(output) => output,
+        Err(error) if error.kind() == ErrorKind::NotFound => return Ok(false),
+        Err(error) => return Err(format!("`rt` cannot be run: {error}")),
+    };
+    if output.status.success() {
+        return Ok(true);
+    }
+    Err(format!(
+        "`rt staticlib host` failed, {}. It said:\n{}{}",
+        output.status,
+        String::from_utf8_lossy(&output.stdout),
+        String::from_utf8_lossy(&output.stderr)
+    ))
+}
+
+fn link(archive: &Path) -> Result<(), String> {
+    let shown = archive.display();
+    let whole = archive
+        .canonicalize()
+        .map_err(|error| format!("{shown}: {error}"))?;
+    let folder = whole
+        .parent()
+        .ok_or(format!("{shown} stands in no folder"))?;
+    println!("cargo:rerun-if-changed={}", whole.display());
+    println!("cargo:rustc-link-search=native={}", folder.display());
+    println!("cargo:rustc-link-lib=static=host");
+    // The test of the C header links the same archive.
+    println!("cargo:rustc-env=RENJU_ARCHIVE_FILE={}", whole.display());
+    Ok(())
+}

@@ -1,0 +1,188 @@
+/*
+ * The host interface of the renju referee, for C and C++.
+ *
+ * Every function answers one word: the refusal in the high half (0: none), the answer in the low.
+ *
+ *     uint32_t word = renju_forbidden_points(cells, RENJU_CELLS, out, sizeof out);
+ *     if (renju_refusal(word) == 0) {
+ *         use(renju_answer(word));
+ *     }
+ *
+ * A slice is two arguments, a pointer and a length. The functions keep no state and no pointer, so
+ * any thread may call them. They take any bytes and any numbers, and never trap. A refusal leaves
+ * every lent byte as it was; an answer writes its own leading bytes of the lent buffer (renju_put
+ * and renju_remove: one cell) and no other.
+ *
+ * What the caller answers for: a pointer is not NULL and has as many bytes behind it as its length
+ * says; a buffer that is written (`out`, and `cells` where it is not const) overlaps nothing else
+ * that is handed over; a `bool` is 0 or 1, as C has it.
+ *
+ * Cells are 225 bytes in code order, 0 empty, 1 black, 2 white. A point's code is 15 x + y: A1 is
+ * 0, H8 is 112, O15 is 224. Where several refusals of a function apply, the first named is given.
+ *
+ * To link: `rt staticlib host` in the repository's root writes target/staticlib/libhost.a, for
+ * x86-64 Linux. Then, in the root:
+ *
+ *     cc -std=c99 -Ihost/include program.c target/staticlib/libhost.a -o program
+ */
+#ifndef RENJU_H
+#define RENJU_H
+
+#include <stdbool.h>
+#include <stddef.h>
+#include <stdint.h>
+
+#ifdef __cplusplus
+extern "C" {
+#endif
+
+/* Sizes in bytes, and the most items that a list can have. */
+#define RENJU_TEXT 4096   /* a text is at most this long */
+#define RENJU_CELLS 225   /* the cells of a board; room for any list of points */
+#define RENJU_DIAGRAM 464 /* the plain diagram */
+#define RENJU_PRETTY 527  /* the numbered diagram */
+#define RENJU_CROSS 2     /* a forbidden point in a list: verdict, code */
+#define RENJU_CROSSES 225 /* a board has at most so many of them */
+#define RENJU_ROW 4       /* a row in a list: key, start, stones mask, eyes mask */
+#define RENJU_ROWS 572    /* a board has at most so many rows of a kind */
+#define RENJU_ROWS_ON 20  /* .. and so many go through one point */
+
+/* Why a question was refused. */
+enum renju_refusals {
+    RENJU_TEXT_LENGTH = 1, /* a text of over 4,096 bytes */
+    RENJU_TEXT_BYTE = 2,   /* a text byte of 128 or more */
+    RENJU_X_PART = 3,      /* a point of a text: its letter */
+    RENJU_Y_PART = 4,      /* a point of a text: its number */
+    RENJU_LINE_LENGTH = 5, /* a diagram line of over 15 cells */
+    RENJU_LINE_COUNT = 6,  /* a diagram of other than 15 lines */
+    RENJU_LINE_SIZE = 7,   /* a diagram line of under 15 cells */
+    RENJU_POINT = 8,       /* a point's code over 224 */
+    RENJU_UNSOUND = 9,     /* cells of another length or with a byte over 2; an unsound line */
+    RENJU_PLACE = 10,      /* a line's size outside 5 to 15; a cell not on it */
+    RENJU_OCCUPIED = 11,   /* the plain verdict at an occupied point */
+    RENJU_NUMBER = 12,     /* no such view, distance, colour or row kind */
+    RENJU_OUTPUT = 13      /* a lent output shorter than the whole answer */
+};
+
+/* What is on a cell; the last two are the colours. */
+enum renju_cells { RENJU_EMPTY = 0, RENJU_BLACK = 1, RENJU_WHITE = 2 };
+
+/* The kinds of rows. */
+enum renju_kinds {
+    RENJU_TWO = 0,
+    RENJU_THREE = 1,
+    RENJU_STRAIGHT = 2,
+    RENJU_SWORD = 3,
+    RENJU_FOUR = 4,
+    RENJU_FIVE = 5,
+    RENJU_OVERLINING = 6,
+    RENJU_OVERLINED = 7
+};
+
+/* What the referee says of a point. */
+enum renju_verdicts {
+    RENJU_NONE = 0,
+    RENJU_DOUBLE_THREE = 1,
+    RENJU_DOUBLE_FOUR = 2,
+    RENJU_OVERLINE = 3
+};
+
+/* The views, each with where it sends the point (x, y). */
+enum renju_views {
+    RENJU_SAME = 0,          /* (x, y) */
+    RENJU_QUARTER_RIGHT = 1, /* (y, 14 - x) */
+    RENJU_HALF_TURN = 2,     /* (14 - x, 14 - y) */
+    RENJU_QUARTER_LEFT = 3,  /* (14 - y, x) */
+    RENJU_LEFT_RIGHT = 4,    /* (14 - x, y) */
+    RENJU_TOP_BOTTOM = 5,    /* (x, 14 - y) */
+    RENJU_ASCENDING = 6,     /* (y, x) */
+    RENJU_DESCENDING = 7     /* (14 - y, 14 - x) */
+};
+
+/* The refusal in a word, 0 for none. */
+static inline unsigned renju_refusal(uint32_t word) { return (unsigned)(word >> 16); }
+
+/* The answer in a word that has no refusal. */
+static inline unsigned renju_answer(uint32_t word) { return (unsigned)(word & 0xffff); }
+
+/* The board that a text says, written to `cells`: 225. Refusals 1, 2, of 3 to 7 the first that the
+ * reading meets, 13. */
+uint32_t renju_read(const uint8_t *text, size_t text_len, uint8_t *cells, size_t cells_len);
+
+/* The plain diagram, which reads back: 464. No 0 byte is put behind it. Refusals 9, 13. */
+uint32_t renju_to_string(const uint8_t *cells, size_t cells_len, uint8_t *out, size_t out_len);
+
+/* The diagram with numbers and letters at its edges: 527, no 0 byte behind. Refusals 9, 13. */
+uint32_t renju_to_pretty_string(const uint8_t *cells, size_t cells_len, uint8_t *out,
+                                size_t out_len);
+
+/* Puts a stone of a colour at a point, in place of what stood there: 0. Refusals 9, 8, 12. */
+uint32_t renju_put(uint8_t *cells, size_t cells_len, uint8_t code, uint8_t colour);
+
+/* Makes a point empty: 0. Refusals 9, 8. */
+uint32_t renju_remove(uint8_t *cells, size_t cells_len, uint8_t code);
+
+/* A colour's stones: how many; a code each, ascending. Refusals 9, 12, 13. */
+uint32_t renju_stones(const uint8_t *cells, size_t cells_len, uint8_t colour, uint8_t *out,
+                      size_t out_len);
+
+/* The empty points: how many; a code each, ascending. Refusals 9, 13. */
+uint32_t renju_empty_points(const uint8_t *cells, size_t cells_len, uint8_t *out, size_t out_len);
+
+/* The points up to a distance, 0 to 14, on the four lines through a point, the point itself on
+ * each, or only those that are empty: how many; a code each. Refusals 9, 8, 12, 13. */
+uint32_t renju_neighbors(const uint8_t *cells, size_t cells_len, uint8_t code, uint8_t distance,
+                         bool only_empty, uint8_t *out, size_t out_len);
+
+/* A colour's rows of a kind: how many; four bytes each, by key, then start. The key is the line's:
+ * vertical 0 to 14, horizontal 15 to 29, ascending 30 to 50, descending 51 to 71. Bit k of a mask
+ * is for the cell k after the start. Refusals 9, 12, 13. */
+uint32_t renju_rows(const uint8_t *cells, size_t cells_len, uint8_t colour, uint8_t kind,
+                    uint8_t *out, size_t out_len);
+
+/* .. those through a point. Refusals 9, 8, 12, 13. */
+uint32_t renju_rows_on(const uint8_t *cells, size_t cells_len, uint8_t code, uint8_t colour,
+                       uint8_t kind, uint8_t *out, size_t out_len);
+
+/* The points that make a five of a colour's Fours through a point: how many; a code each, line by
+ * line, each once a line. Refusals 9, 8, 12, 13. */
+uint32_t renju_four_eyes_on(const uint8_t *cells, size_t cells_len, uint8_t code, uint8_t colour,
+                            uint8_t *out, size_t out_len);
+
+/* The plain verdict on a black stone at an empty point. Refusals 9, 8, 11. */
+uint32_t renju_forbidden(const uint8_t *cells, size_t cells_len, uint8_t code);
+
+/* The strict verdict, that of the rules: none at an occupied point, and where the stone completes a
+ * five. Refusals 9, 8. */
+uint32_t renju_forbidden_strict(const uint8_t *cells, size_t cells_len, uint8_t code);
+
+/* The points that the strict verdict forbids to Black: how many; two bytes each, verdict and code,
+ * by code. Refusals 9, 13. */
+uint32_t renju_forbidden_points(const uint8_t *cells, size_t cells_len, uint8_t *out,
+                                size_t out_len);
+
+/* The cells in a view, written to `out`: 225. Refusals 9, 12, 13. */
+uint32_t renju_turn(const uint8_t *cells, size_t cells_len, uint8_t view, uint8_t *out,
+                    size_t out_len);
+
+/* The code of the point that a view sends a point to. Refusals 8, 12. */
+uint32_t renju_turn_point(uint8_t code, uint8_t view);
+
+/* A line of 5 to 15 cells alone, by the masks of its stones, bit i for cell i: where a colour's
+ * rows of a kind start, as a mask. Refusals 10 for the size, 9, 12. */
+uint32_t renju_line_starts(uint16_t blacks, uint16_t whites, uint8_t size, uint8_t colour,
+                           uint8_t kind);
+
+/* .. those through a cell. Refusals 10 for the size, 9, 12, 10 for the cell. */
+uint32_t renju_line_starts_on(uint16_t blacks, uint16_t whites, uint8_t size, uint8_t colour,
+                              uint8_t kind, uint8_t cell);
+
+/* .. the eyes of these rows, as a mask. Refusals 10 for the size, 9, 12. */
+uint32_t renju_line_eyes(uint16_t blacks, uint16_t whites, uint8_t size, uint8_t colour,
+                         uint8_t kind);
+
+#ifdef __cplusplus
+}
+#endif
+
+#endif

@@ -1,0 +1,95 @@
+//! Times the original and the host interface on the same boards: `bench [SEED] [quick]
+//! [--markdown]`.
+//!
+//! Exit status 1 if any answer differs, 2 for an argument that is not understood.
+
+use std::env;
+use std::process::ExitCode;
+
+use runs::timing::suite::{self, Settings};
+use runs::timing::{machine, table};
+
+/// The seed where none is given.
+const SEED: u64 = 20_261_115;
+
+/// What the arguments ask for.
+struct Asked {
+    settings: Settings,
+    markdown: bool,
+}
+
+fn main() -> ExitCode {
+    let Some(asked) = read_arguments() else {
+        eprintln!("usage: bench [SEED] [quick] [--markdown]");
+        return ExitCode::from(2);
+    };
+    print!("{}", conditions(&asked.settings));
+    // Rows come slowly; who waits sees on the error stream that something happens.
+    let report = |row: &table::Row| eprintln!("timed: {}, {}", row.question, row.boards);
+    match suite::run(&asked.settings, report) {
+        Ok(rows) => {
+            let write = if asked.markdown {
+                table::markdown
+            } else {
+                table::plain
+            };
+            println!("\n{}\n{}", write(&rows), table::LEGEND);
+            ExitCode::SUCCESS
+        }
+        Err(difference) => {
+            eprintln!("{difference}");
+            ExitCode::FAILURE
+        }
+    }
+}
+
+/// A number is the seed; the two words may stand anywhere.
+fn read_arguments() -> Option<Asked> {
+    let (mut seed, mut quick, mut markdown) = (SEED, false, false);
+    for argument in env::args().skip(1) {
+        match argument.as_str() {
+            "quick" | "--quick" => quick = true,
+            "--markdown" => markdown = true,
+            number => seed = number.parse().ok()?,
+        }
+    }
+    let settings = if quick {
+        Settings::quick(seed)
+    } else {
+        Settings::usual(seed)
+    };
+    Some(Asked { settings, markdown })
+}
+
+/// Under what conditions the times are taken: enough to take them again. It reads as a list in
+/// Markdown too.
+fn conditions(settings: &Settings) -> String {
+    let Settings {
+        seed,
+        games,
+        nested,
+        by_point,
+        changed,
+        pace,
+    } = settings;
+    let (rounds, warm_up, sample) = (pace.rounds, pace.warm_up, pace.sample);
+    let (machine, clock) = (machine::kind(), machine::clock());
+    format!(
+        "\
+- Machine: {machine}.
+- Seed: {seed}.
+- Boards: {games} games of each number of stones and {nested} nested boards. Verdicts are asked at
+  every empty point of the first {by_point} of each; put and remove at every empty point of the
+  first {changed} games of each number of stones.
+- Order: {rounds} rounds over all questions after {warm_up} of warm-up. Each question is asked of
+  both, one after the other; which goes first changes with the round and with the question.
+- Samples: calls that take less than {sample} ns on the faster side go several to a sample, as many
+  on either side. Looking at the clock takes {clock} ns of a sample and is not taken off.
+- Original: its own functions on a board that stands ready. Lists that it allocates are dropped in
+  the timed part.
+- Ours: the host calls on 225 cell bytes or on the text. 450 bytes are lent for a list, 225 for a
+  board read, zeroed once before the first call and lent again as the last call left them.
+- Answers: all compared, before the timed rounds and after them.
+"
+    )
+}

@@ -1,0 +1,178 @@
+//! What a call must answer: refusals by section 2 of document 01, values by the original.
+
+use super::call::{Call, Given};
+use oracle::board::board::Board;
+use oracle::naive;
+use oracle::original::{self, Cells, KINDS, player, point, to_cells, to_line};
+
+/// The low half of the word and the bytes written, or the refusal. Whether the bytes have room,
+/// refusal 13, is for the caller to see: it comes after all the others.
+pub type Expected = Result<(u16, Vec<u8>), u8>;
+
+pub fn expected(call: &Call, given: &Given) -> Expected {
+    match refusal(call, given) {
+        Some(number) => Err(number),
+        None => value(call, given),
+    }
+}
+
+/// The numbers of a call that can be refused.
+#[derive(Default)]
+struct Numbers {
+    size: Option<u8>,
+    code: Option<u8>,
+    colour: Option<u8>,
+    kind: Option<u8>,
+    view: Option<u8>,
+    distance: Option<u8>,
+    cell: Option<u8>,
+}
+
+fn numbers(call: &Call) -> Numbers {
+    let mut n = Numbers {
+        size: call.line().map(|line| line.size),
+        ..Numbers::default()
+    };
+    match *call {
+        Call::Put { code, colour } | Call::FourEyesOn { code, colour } => {
+            (n.code, n.colour) = (Some(code), Some(colour))
+        }
+        Call::Remove { code } | Call::Forbidden { code } | Call::ForbiddenStrict { code } => {
+            n.code = Some(code)
+        }
+        Call::Stones { colour } => n.colour = Some(colour),
+        Call::Neighbors { code, distance, .. } => {
+            (n.code, n.distance) = (Some(code), Some(distance))
+        }
+        Call::Rows { colour, kind } => (n.colour, n.kind) = (Some(colour), Some(kind)),
+        Call::RowsOn { code, colour, kind } => {
+            (n.code, n.colour, n.kind) = (Some(code), Some(colour), Some(kind))
+        }
+        Call::Turn { view } => n.view = Some(view),
+        Call::TurnPoint { code, view } => (n.code, n.view) = (Some(code), Some(view)),
+        Call::LineStarts { colour, kind, .. } | Call::LineEyes { colour, kind, .. } => {
+            (n.colour, n.kind) = (Some(colour), Some(kind))
+        }
+        Call::LineStartsOn {
+            colour, kind, cell, ..
+        } => (n.colour, n.kind, n.cell) = (Some(colour), Some(kind), Some(cell)),
+        Call::Read | Call::ToString | Call::ToPrettyString => {}
+        Call::EmptyPoints | Call::ForbiddenPoints => {}
+    }
+    n
+}
+
+/// "Order: text 1, 2, [..]; then 10 for size, 9, 8, 12, 10 for place, 11, 13." The original's own
+/// refusals, 3 to 7, come with the reading: `read` can meet none of those behind them but 13.
+fn refusal(call: &Call, given: &Given) -> Option<u8> {
+    let n = numbers(call);
+    let over = |number: Option<u8>, most: u8| number.is_some_and(|number| number > most);
+    let wrong_colour = n.colour.is_some_and(|colour| colour != 1 && colour != 2);
+    let wrong_number = over(n.view, 7) || over(n.distance, 14) || wrong_colour || over(n.kind, 7);
+    let is_read = *call == Call::Read;
+    let rules = [
+        (1, is_read && given.bytes.len() > 4096),
+        (2, is_read && given.bytes.iter().any(|&byte| byte >= 128)),
+        (10, n.size.is_some_and(|size| !(5..=15).contains(&size))),
+        (9, is_unsound(call, given)),
+        (8, over(n.code, 224)),
+        (12, wrong_number),
+        (
+            10,
+            n.cell
+                .is_some_and(|cell| n.size.is_some_and(|size| cell >= size)),
+        ),
+        (11, is_occupied(call, given)),
+    ];
+    rules.iter().find(|rule| rule.1).map(|rule| rule.0)
+}
+
+/// "unsound board, line or segment; cell bytes of other length or with a byte over 2".
+fn is_unsound(call: &Call, given: &Given) -> bool {
+    match call {
+        Call::Read | Call::TurnPoint { .. } => false,
+        _ => match call.line() {
+            Some(line) => !line.is_sound(),
+            None => given.sound.is_none(),
+        },
+    }
+}
+
+/// "the plain verdict (`forbidden`) at an occupied point".
+fn is_occupied(call: &Call, given: &Given) -> bool {
+    match (call, &given.sound) {
+        (&Call::Forbidden { code }, Some((cells, _))) => {
+            cells.get(usize::from(code)).is_some_and(|&cell| cell != 0)
+        }
+        _ => false,
+    }
+}
+
+/// The answer of a call that is not refused before it is asked.
+fn value(call: &Call, given: &Given) -> Expected {
+    match (*call, &given.sound) {
+        (Call::Read, _) => {
+            let text = std::str::from_utf8(&given.bytes).expect("bytes below 128 are text");
+            original::read(text).map(|cells| (225, cells.to_vec()))
+        }
+        (Call::TurnPoint { code, view }, _) => {
+            let turned = naive::turned_point(usize::from(view), usize::from(code));
+            Ok((turned as u16, Vec::new()))
+        }
+        (_, Some((cells, board))) => Ok(of_board(call, cells, board)),
+        (_, None) => Ok((of_line(call), Vec::new())),
+    }
+}
+
+/// The original's answer about a board; the views are the document's alone.
+fn of_board(call: &Call, cells: &Cells, board: &Board) -> (u16, Vec<u8>) {
+    match *call {
+        Call::ToString => list(board.to_string().into_bytes(), 1),
+        Call::ToPrettyString => list(board.to_pretty_string().into_bytes(), 1),
+        Call::Put { code, colour } => {
+            let next = board.with_stone(player(colour), point(code));
+            (0, to_cells(&next).to_vec())
+        }
+        Call::Remove { code } => (0, to_cells(&board.without_stone(point(code))).to_vec()),
+        Call::Stones { colour } => list(original::stones(board, colour), 1),
+        Call::EmptyPoints => list(original::empty_points(board), 1),
+        Call::Neighbors {
+            code,
+            distance,
+            only_empty,
+        } => list(original::neighbours(board, code, distance, only_empty), 1),
+        Call::Rows { colour, kind } => list(original::rows(board, colour, kind).concat(), 4),
+        Call::RowsOn { code, colour, kind } => {
+            list(original::rows_on(board, code, colour, kind).concat(), 4)
+        }
+        Call::FourEyesOn { code, colour } => list(original::four_eyes_on(board, code, colour), 1),
+        Call::Forbidden { code } => (original::plain(board, code).into(), Vec::new()),
+        Call::ForbiddenStrict { code } => (original::strict(board, code).into(), Vec::new()),
+        Call::ForbiddenPoints => {
+            let found = original::forbidden_list(board).into_iter();
+            list(found.flat_map(|(kind, code)| [kind, code]).collect(), 2)
+        }
+        Call::Turn { view } => list(naive::turned_board(usize::from(view), cells).to_vec(), 1),
+        _ => unreachable!("{call:?} is not about a board"),
+    }
+}
+
+/// A list: how many items of a width there are, and their bytes.
+fn list(bytes: Vec<u8>, width: usize) -> (u16, Vec<u8>) {
+    ((bytes.len() / width) as u16, bytes)
+}
+
+/// The original's mask of a line alone.
+fn of_line(call: &Call) -> u16 {
+    let line = call.line().expect("a line alone, or it was refused");
+    let line = to_line(line.size, line.blacks, line.whites);
+    let of = |kind: u8| KINDS[usize::from(kind)];
+    match *call {
+        Call::LineStarts { colour, kind, .. } => line.row_starts(player(colour), of(kind)),
+        Call::LineStartsOn {
+            colour, kind, cell, ..
+        } => line.row_starts_on(cell, player(colour), of(kind)),
+        Call::LineEyes { colour, kind, .. } => line.row_eyes(player(colour), of(kind)),
+        _ => unreachable!("{call:?} is not about a line"),
+    }
+}

@@ -1,0 +1,78 @@
+//! What has been compared: counts a function, and its smallest difference.
+
+use super::call::{Call, NAMES};
+use super::judge::Difference;
+
+/// The counts of one function.
+#[derive(Clone, Default)]
+pub struct Count {
+    pub comparisons: u64,
+    pub differences: u64,
+    /// How often each refusal was to be given, by its number.
+    pub refusals: [u64; 14],
+    pub smallest: Option<Difference>,
+}
+
+/// The counts of all functions, in the order of [`NAMES`].
+#[derive(Clone, Default)]
+pub struct Tally {
+    pub counts: [Count; NAMES.len()],
+}
+
+impl Count {
+    /// Keeps the difference if it is smaller than the smallest so far.
+    fn keep(&mut self, difference: Difference) {
+        let is_smaller = |kept: &Difference| difference.size() < kept.size();
+        if self.smallest.as_ref().is_none_or(is_smaller) {
+            self.smallest = Some(difference);
+        }
+    }
+
+    fn add(&mut self, more: Count) {
+        self.comparisons += more.comparisons;
+        self.differences += more.differences;
+        for (refusals, more) in self.refusals.iter_mut().zip(more.refusals) {
+            *refusals += more;
+        }
+        if let Some(difference) = more.smallest {
+            self.keep(difference);
+        }
+    }
+}
+
+impl Tally {
+    pub fn comparisons(&self) -> u64 {
+        self.counts.iter().map(|count| count.comparisons).sum()
+    }
+
+    pub fn differences(&self) -> u64 {
+        self.counts.iter().map(|count| count.differences).sum()
+    }
+
+    /// The smallest difference of each function that has one.
+    pub fn smallest(&self) -> impl Iterator<Item = &Difference> {
+        self.counts
+            .iter()
+            .filter_map(|count| count.smallest.as_ref())
+    }
+
+    pub fn count(&mut self, call: &Call, refusal: u32, differs: bool) {
+        let count = &mut self.counts[call.number()];
+        count.comparisons += 1;
+        count.differences += u64::from(differs);
+        if refusal > 0 {
+            count.refusals[refusal as usize] += 1;
+        }
+    }
+
+    pub fn keep(&mut self, difference: Difference) {
+        self.counts[difference.case.call.number()].keep(difference);
+    }
+
+    /// Adds what another thread has compared.
+    pub fn add(&mut self, other: Tally) {
+        for (count, more) in self.counts.iter_mut().zip(other.counts) {
+            count.add(more);
+        }
+    }
+}

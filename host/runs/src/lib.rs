@@ -1,0 +1,4 @@
+//! The host interface beside the original.
+
+pub mod differential;
+pub mod timing;

@@ -1,0 +1,273 @@
+//! The questions of the table: lists, verdicts, changes and texts. What is timed is one call of the
+//! original's own function on a board that stands ready, against one call of the host interface on
+//! bytes.
+
+use std::hint::black_box;
+
+use oracle::board::board::Board;
+use oracle::board::grid::Grid;
+use oracle::board::player::Player;
+use oracle::original::{self, Cells};
+use renju::raw;
+
+use super::race::Race;
+use super::sets::Ready;
+
+/// The first number that is a refusal; below it are answers.
+const REFUSAL: u32 = 65_536;
+
+/// The length of the longest list: every point with its kind.
+const LIST: usize = 450;
+
+/// The list of the forbidden points.
+pub struct Lists<'a> {
+    boards: &'a [Ready],
+    /// Lent to each call; zeroed once, here.
+    out: [u8; LIST],
+}
+
+impl<'a> Lists<'a> {
+    pub fn new(boards: &'a [Ready]) -> Self {
+        Self {
+            boards,
+            out: [0; LIST],
+        }
+    }
+}
+
+impl Race for Lists<'_> {
+    fn count(&self) -> usize {
+        self.boards.len()
+    }
+
+    fn agrees(&mut self, question: usize) -> bool {
+        let Ready { cells, board, .. } = &self.boards[question];
+        let count = raw::renju_forbidden_points(cells, &mut self.out);
+        let pair = |p: &[u8]| (p[0], p[1]);
+        let found = self.out.chunks(2).take(count as usize).map(pair);
+        count < REFUSAL && found.eq(original::forbidden_list(board))
+    }
+
+    // The original's `Vec` is dropped in the timed part: a frame has to do that too.
+    fn original(&mut self, question: usize, calls: usize) {
+        let board = &self.boards[question].board;
+        for _ in 0..calls {
+            black_box(black_box(board).forbidden_points());
+        }
+    }
+
+    fn ours(&mut self, question: usize, calls: usize) {
+        let cells = &self.boards[question].cells;
+        for _ in 0..calls {
+            black_box(raw::renju_forbidden_points(black_box(cells), &mut self.out));
+        }
+    }
+}
+
+/// A board by number, and an empty point of it.
+type Place = (usize, u8);
+
+/// Every empty point of every board.
+fn places(boards: &[Ready]) -> Vec<Place> {
+    let of = |(n, board): (usize, &Ready)| board.empty().map(|code| (n, code)).collect::<Vec<_>>();
+    boards.iter().enumerate().flat_map(of).collect()
+}
+
+/// The strict verdict at one point.
+pub struct Verdicts<'a> {
+    boards: &'a [Ready],
+    places: Vec<Place>,
+}
+
+impl<'a> Verdicts<'a> {
+    pub fn new(boards: &'a [Ready]) -> Self {
+        let places = places(boards);
+        Self { boards, places }
+    }
+}
+
+impl Race for Verdicts<'_> {
+    fn count(&self) -> usize {
+        self.places.len()
+    }
+
+    fn agrees(&mut self, question: usize) -> bool {
+        let (n, code) = self.places[question];
+        let Ready { cells, board, .. } = &self.boards[n];
+        raw::renju_forbidden_strict(cells, code) == original::strict(board, code).into()
+    }
+
+    fn original(&mut self, question: usize, calls: usize) {
+        let (n, code) = self.places[question];
+        let (board, point) = (&self.boards[n].board, original::point(code));
+        for _ in 0..calls {
+            black_box(black_box(board).forbidden_strict(black_box(point)));
+        }
+    }
+
+    fn ours(&mut self, question: usize, calls: usize) {
+        let (n, code) = self.places[question];
+        let cells = &self.boards[n].cells;
+        for _ in 0..calls {
+            black_box(raw::renju_forbidden_strict(
+                black_box(cells),
+                black_box(code),
+            ));
+        }
+    }
+}
+
+/// Which of the original's two boards is asked: the one that keeps a hash with it, or the lines
+/// alone. The port has no hash, so the first is what callers use today and the second does what the
+/// port does.
+#[derive(Debug, Clone, Copy, PartialEq, Eq)]
+pub enum Form {
+    Board,
+    Grid,
+}
+
+impl Form {
+    pub const ALL: [Self; 2] = [Self::Board, Self::Grid];
+
+    pub fn words(self) -> &'static str {
+        match self {
+            Self::Board => "games, original's Board",
+            Self::Grid => "games, original's Grid",
+        }
+    }
+}
+
+/// A black stone put at an empty point and taken off again: two calls, timed as one.
+pub struct Changes {
+    /// Boards of its own, for they are changed.
+    boards: Vec<Ready>,
+    places: Vec<Place>,
+    form: Form,
+}
+
+impl Changes {
+    pub fn new(boards: Vec<Ready>, form: Form) -> Self {
+        let places = places(&boards);
+        Self {
+            boards,
+            places,
+            form,
+        }
+    }
+}
+
+/// The cells of the original's lines.
+fn cells_of(grid: &Grid) -> Cells {
+    let mut cells = [0; 225];
+    for (code, cell) in cells.iter_mut().enumerate() {
+        *cell = match grid.stone(original::point(code as u8)) {
+            None => 0,
+            Some(Player::Black) => 1,
+            Some(Player::White) => 2,
+        };
+    }
+    cells
+}
+
+/// Whether the three forms of a board hold the same stones.
+fn same(ready: &Ready) -> bool {
+    original::to_cells(&ready.board) == ready.cells && cells_of(&ready.grid) == ready.cells
+}
+
+impl Race for Changes {
+    fn count(&self) -> usize {
+        self.places.len()
+    }
+
+    fn agrees(&mut self, question: usize) -> bool {
+        let (n, code) = self.places[question];
+        let (ready, point) = (&mut self.boards[n], original::point(code));
+        let before = ready.cells;
+        ready.board.put(Player::Black, point);
+        ready.grid.put(Player::Black, point);
+        let put = raw::renju_put(&mut ready.cells, code, 1) == 0;
+        let same_put = same(ready) && ready.cells[code as usize] == 1;
+        ready.board.remove(point);
+        ready.grid.remove(point);
+        let removed = raw::renju_remove(&mut ready.cells, code) == 0;
+        put && same_put && removed && same(ready) && ready.cells == before
+    }
+
+    fn original(&mut self, question: usize, calls: usize) {
+        let (n, code) = self.places[question];
+        let (ready, point) = (&mut self.boards[n], original::point(code));
+        match self.form {
+            Form::Board => {
+                for _ in 0..calls {
+                    let board: &mut Board = black_box(&mut ready.board);
+                    board.put(Player::Black, black_box(point));
+                    black_box(&mut *board).remove(black_box(point));
+                }
+            }
+            Form::Grid => {
+                for _ in 0..calls {
+                    let grid: &mut Grid = black_box(&mut ready.grid);
+                    grid.put(Player::Black, black_box(point));
+                    black_box(&mut *grid).remove(black_box(point));
+                }
+            }
+        }
+    }
+
+    fn ours(&mut self, question: usize, calls: usize) {
+        let (n, code) = self.places[question];
+        let cells = &mut self.boards[n].cells;
+        for _ in 0..calls {
+            black_box(raw::renju_put(black_box(cells), black_box(code), 1));
+            black_box(raw::renju_remove(black_box(cells), black_box(code)));
+        }
+    }
+}
+
+/// A plain diagram read.
+pub struct Texts<'a> {
+    boards: Vec<&'a Ready>,
+    form: Form,
+    /// Lent to each call; zeroed once, here.
+    cells: Cells,
+}
+
+impl<'a> Texts<'a> {
+    pub fn new(boards: Vec<&'a Ready>, form: Form) -> Self {
+        Self {
+            boards,
+            form,
+            cells: [0; 225],
+        }
+    }
+}
+
+impl Race for Texts<'_> {
+    fn count(&self) -> usize {
+        self.boards.len()
+    }
+
+    fn agrees(&mut self, question: usize) -> bool {
+        let ready = self.boards[question];
+        let answer = raw::renju_read(ready.text.as_bytes(), &mut self.cells);
+        let same = self.cells == ready.cells;
+        answer == 225 && same && original::read(&ready.text) == Ok(self.cells)
+    }
+
+    fn original(&mut self, question: usize, calls: usize) {
+        let text = &self.boards[question].text;
+        for _ in 0..calls {
+            match self.form {
+                Form::Board => drop(black_box(black_box(text).parse::<Board>())),
+                Form::Grid => drop(black_box(black_box(text).parse::<Grid>())),
+            }
+        }
+    }
+
+    fn ours(&mut self, question: usize, calls: usize) {
+        let text = self.boards[question].text.as_bytes();
+        for _ in 0..calls {
+            black_box(raw::renju_read(black_box(text), &mut self.cells));
+        }
+    }
+}

@@ -1,0 +1,231 @@
+//! The differential run finds nothing in ours, and what is wrong in hosts that are wrong.
+
+use oracle::naive_text::write_diagram;
+use runs::differential::call::{Call, GUARD, Host, Lent, NAMES, ask};
+use runs::differential::judge::{Difference, Judge, Progress};
+use runs::differential::tally::Tally;
+use runs::differential::{Plan, lines, report, run, shrink};
+use std::process::Command;
+
+const SHORT: Plan = Plan {
+    comparisons: 100_000,
+    seed: 7,
+    threads: 2,
+};
+
+/// The refusals of each function, as the host interface lists them.
+const REFUSALS: [&[usize]; 19] = [
+    &[1, 2, 3, 4, 5, 6, 7, 13],
+    &[9, 13],
+    &[9, 13],
+    &[8, 9, 12],
+    &[8, 9],
+    &[9, 12, 13],
+    &[9, 13],
+    &[8, 9, 12, 13],
+    &[9, 12, 13],
+    &[8, 9, 12, 13],
+    &[8, 9, 12, 13],
+    &[8, 9, 11],
+    &[8, 9],
+    &[9, 13],
+    &[9, 12, 13],
+    &[8, 12],
+    &[9, 10, 12],
+    &[9, 10, 12],
+    &[9, 10, 12],
+];
+
+fn short(host: &Host) -> Tally {
+    run(host, &SHORT, |_, _| {})
+}
+
+/// The one function in which a short run finds differences, and its smallest, made smaller.
+fn only_difference(host: &Host) -> Difference {
+    let tally = short(host);
+    assert!(tally.differences() > 0, "nothing is found");
+    let mut smallest = tally.smallest();
+    let found = smallest.next().expect("a difference is kept").clone();
+    assert!(smallest.next().is_none(), "only one function is wrong");
+    let shrunk = shrink::shrunk(host, found.clone());
+    assert!(shrunk.size() <= found.size());
+    shrunk
+}
+
+#[test]
+fn ours_has_no_difference_and_every_refusal_is_met() {
+    let tally = short(&ask);
+    assert_eq!(tally.differences(), 0);
+    assert!(tally.comparisons() >= SHORT.comparisons);
+    for ((name, count), refusals) in NAMES.iter().zip(&tally.counts).zip(REFUSALS) {
+        let met = (0..14).filter(|&number| count.refusals[number] > 0);
+        assert_eq!(met.collect::<Vec<_>>(), refusals, "{name}");
+        let refused: u64 = count.refusals.iter().sum();
+        assert!(count.comparisons > refused, "{name} answers too");
+    }
+}
+
+#[test]
+fn every_line_of_sizes_five_to_ten_has_no_difference() {
+    let progress = Progress::default();
+    let mut judge = Judge::new(&ask, &progress, 0);
+    lines::whole(&mut judge, lines::WHOLE, 0, 1);
+    assert_eq!(judge.tally.differences(), 0);
+    // 16 pairs of colour and kind, a size's 3^size lines, its cells and two questions more each.
+    let each = |size: u32| 16 * 3u64.pow(size) * u64::from(size + 2);
+    assert_eq!(judge.tally.comparisons(), (5..=10).map(each).sum::<u64>());
+}
+
+#[test]
+fn a_wrong_verdict_is_found() {
+    let wrong = |call: &Call, given: &[u8], lent: &mut Lent| {
+        let word = ask(call, given, lent);
+        let is_double_three = matches!(call, Call::ForbiddenStrict { .. }) && word == 1;
+        if is_double_three { 0 } else { word }
+    };
+    let found = only_difference(&wrong);
+    assert_eq!((found.expected.word, found.got.word), (1, 0));
+    // Two twos that cross: no double three has fewer stones.
+    assert_eq!(found.size(), (4, 225));
+    let text = report::difference(&found);
+    let (cells, _) = found.case.given.sound.as_ref().expect("sound cells");
+    for part in [
+        "renju_forbidden_strict: ForbiddenStrict { code: ",
+        &write_diagram(cells),
+        "expected word 0x1, answer 1\n",
+        "got      word 0x0, answer 0\n",
+    ] {
+        assert!(text.contains(part), "{part} is not in {text}");
+    }
+}
+
+#[test]
+fn a_wrong_verdict_at_one_point_of_full_boards_is_found() {
+    let wrong = |call: &Call, given: &[u8], lent: &mut Lent| {
+        let word = ask(call, given, lent);
+        let is_full = given.iter().filter(|&&cell| cell != 0).count() > 100;
+        let is_here = is_full && *call == Call::Forbidden { code: 37 };
+        if is_here && word < 4 { word ^ 1 } else { word }
+    };
+    let found = only_difference(&wrong);
+    assert_eq!(found.case.call, Call::Forbidden { code: 37 });
+    assert_eq!(found.size(), (101, 225));
+}
+
+#[test]
+fn a_byte_behind_the_answer_is_found() {
+    let wrong = |call: &Call, given: &[u8], lent: &mut Lent| {
+        let word = ask(call, given, lent);
+        if *call == Call::EmptyPoints
+            && let Some(byte) = lent.get_mut(word as usize)
+        {
+            *byte ^= 1;
+        }
+        word
+    };
+    let found = only_difference(&wrong);
+    assert_eq!(found.expected.word, found.got.word);
+    assert_eq!(found.size(), (0, 225));
+    assert!(report::difference(&found).contains("\nlent byte 225: expected "));
+}
+
+/// The place that is told, counted from the lent bytes' start and from their end, where
+/// `renju_turn` also changes one of the guarded bytes.
+fn told_of_guard(place: impl Fn(usize) -> usize + Sync) -> (i64, i64) {
+    let wrong = |call: &Call, given: &[u8], lent: &mut Lent| {
+        let word = ask(call, given, lent);
+        if matches!(call, Call::Turn { .. }) {
+            lent.guarded[place(lent.guarded.len())] ^= 1;
+        }
+        word
+    };
+    let found = only_difference(&wrong);
+    assert_eq!(found.expected.word, found.got.word);
+    let text = report::difference(&found);
+    let (_, told) = text.split_once("\nlent byte ").expect("a place");
+    let (told, _) = told.split_once(':').expect("its end");
+    let told: i64 = told.parse().expect("a number");
+    (told, told - (found.got.lent.len() - 2 * GUARD) as i64)
+}
+
+#[test]
+fn a_byte_outside_the_lent_ones_is_found() {
+    assert_eq!(told_of_guard(|_| GUARD - 1).0, -1);
+    assert_eq!(told_of_guard(|length| length - GUARD).1, 0);
+    assert_eq!(told_of_guard(|length| length - 1).1, 15);
+}
+
+#[test]
+fn a_refusal_that_writes_is_found() {
+    let wrong = |call: &Call, given: &[u8], lent: &mut Lent| {
+        let word = ask(call, given, lent);
+        if *call == Call::Read && word == 6 << 16 && !lent.is_empty() {
+            lent[0] ^= 1;
+        }
+        word
+    };
+    let found = only_difference(&wrong);
+    assert_eq!(found.got.word, 6 << 16);
+    // The empty text is no diagram: one line.
+    assert_eq!(found.size(), (0, 0));
+}
+
+#[test]
+fn refusals_in_another_order_are_found() {
+    let wrong = |call: &Call, given: &[u8], lent: &mut Lent| match call {
+        Call::Put { code, colour } if *code > 224 && !(1..=2).contains(colour) => {
+            let word = ask(call, given, lent);
+            if word == 8 << 16 { 12 << 16 } else { word }
+        }
+        _ => ask(call, given, lent),
+    };
+    let found = only_difference(&wrong);
+    assert_eq!((found.expected.word, found.got.word), (8 << 16, 12 << 16));
+    assert_eq!(found.size(), (0, 225));
+}
+
+#[test]
+fn a_count_too_high_is_found() {
+    let wrong = |call: &Call, given: &[u8], lent: &mut Lent| {
+        let word = ask(call, given, lent);
+        let is_rows = matches!(call, Call::Rows { kind: 1, .. });
+        word + u32::from(is_rows && (1..65536).contains(&word))
+    };
+    let found = only_difference(&wrong);
+    assert_eq!(found.got.word, found.expected.word + 1);
+    assert_eq!(found.size(), (3, 225));
+}
+
+#[test]
+fn a_wrong_mask_of_a_line_is_found() {
+    let wrong = |call: &Call, given: &[u8], lent: &mut Lent| match call {
+        Call::LineEyes { line, kind: 4, .. } if line.size == 12 => {
+            ask(call, given, lent) & !(1 << 11)
+        }
+        _ => ask(call, given, lent),
+    };
+    let found = only_difference(&wrong);
+    assert_eq!(found.size(), (4, 12));
+    assert!(report::difference(&found).contains("size: 12 }, colour: "));
+}
+
+#[test]
+fn the_program_says_how_it_went() {
+    let program = || Command::new(env!("CARGO_BIN_EXE_differential"));
+    let ended = program().args(["1000", "3"]).output().expect("it runs");
+    assert_eq!(ended.status.code(), Some(0));
+    let text = String::from_utf8(ended.stdout).expect("text");
+    assert!(text.starts_with("at least 1000 comparisons, seed 3, 2 threads\n"));
+    assert!(text.ends_with(" comparisons, 0 differences\n"));
+    for wrong in [
+        vec!["x"],
+        vec!["1", "-1"],
+        vec!["1", "1", "0"],
+        vec!["1"; 4],
+    ] {
+        let ended = program().args(wrong).output().expect("it runs");
+        assert_eq!(ended.status.code(), Some(2));
+        assert!(ended.stdout.is_empty());
+        assert!(ended.stderr.starts_with(b"usage: differential "));
+    }
+}

@@ -1,0 +1,358 @@
+//! That the times, tables and pictures say what they should, and that a quick run agrees.
+
+use std::collections::BTreeSet;
+use std::process::{Command, Output};
+use std::time::{Duration, Instant};
+
+use oracle::boards::{self, Dice};
+use oracle::{naive, original};
+use renju::Cells;
+use runs::timing::race::{self, Pace, Race, Times};
+use runs::timing::rows::{Changes, Form, Lists, Texts, Verdicts};
+use runs::timing::sets::Ready;
+use runs::timing::stats::{Histogram, Summary, percentile, side_by_side};
+use runs::timing::suite::{self, Settings};
+use runs::timing::{machine, picture, sets, table};
+
+#[test]
+fn percentiles_of_known_values() {
+    let mut values: Vec<f64> = (1..=200).map(f64::from).collect();
+    values.reverse();
+    assert_eq!(percentile(&values, 50.0), Some(100.0));
+    assert_eq!(percentile(&values, 99.0), Some(198.0));
+    assert_eq!(percentile(&values, 100.0), Some(200.0));
+    assert_eq!(percentile(&values, 0.0), Some(1.0));
+    assert_eq!(percentile(&[7.0], 50.0), Some(7.0));
+    assert_eq!(percentile(&[], 50.0), None);
+    let Summary {
+        count,
+        p50,
+        p99,
+        max,
+        sum,
+    } = Summary::of(&values);
+    assert_eq!(
+        (count, p50, p99, max, sum),
+        (200, 100.0, 198.0, 200.0, 20100.0)
+    );
+    assert_eq!(Summary::of(&[]), Summary::default());
+}
+
+#[test]
+fn each_edge_begins_its_bucket() {
+    for bucket in 0..50 {
+        let edge = Histogram::edge(bucket);
+        assert_eq!(Histogram::bucket(edge), bucket);
+        assert_eq!(Histogram::bucket(edge * 0.999), bucket.saturating_sub(1));
+        assert!(Histogram::edge(bucket + 1) / edge < 1.3, "{edge}");
+    }
+    // What lies outside goes to the ends.
+    assert_eq!(Histogram::bucket(0.0), 0);
+    assert_eq!(Histogram::bucket(1e9), 49);
+}
+
+#[test]
+fn two_histograms_side_by_side() {
+    let left = Histogram::of(&[20.0, 21.0, 24.9, 33.0]);
+    let right = Histogram::of(&[33.0]);
+    let text = side_by_side(["old", "new"], [&left, &right]);
+    let lines: Vec<&str> = text.lines().collect();
+    assert_eq!(lines.len(), 4, "{text}");
+    let bars = |line: &str| -> Vec<usize> {
+        let bar = |word: &&str| word.starts_with('#');
+        line.split_whitespace().filter(bar).map(str::len).collect()
+    };
+    assert!(
+        lines[1].starts_with("      20       25       3 #"),
+        "{text}"
+    );
+    assert_eq!(bars(lines[1]), [30]);
+    assert_eq!(bars(lines[2]), [0; 0]);
+    assert_eq!(bars(lines[3]), [10, 10]);
+    // No times at all still make a table.
+    let none = Histogram::of(&[]);
+    assert_eq!(
+        side_by_side(["old", "new"], [&none, &none]).lines().count(),
+        2
+    );
+}
+
+/// Some games and nested boards.
+fn some_boards() -> Vec<Cells> {
+    let mut dice = Dice::new(5);
+    let mut made = vec![[0; 225]];
+    made.extend((0..4).map(|n| boards::game(&mut dice, 20 * n + 10)));
+    made.extend((0..6).map(|_| boards::nested(&mut dice)));
+    let cells = made.iter().map(|bytes| Cells::from_bytes(bytes));
+    cells
+        .collect::<Result<_, _>>()
+        .expect("cells of 0, 1 and 2")
+}
+
+#[test]
+fn a_picture_has_a_cross_for_each_of_the_list() {
+    let mut crosses_seen = 0;
+    for cells in some_boards() {
+        let crosses = cells.forbidden_points();
+        let text = picture::svg(&cells, &crosses, "");
+        assert_eq!(text.matches("class=\"cross\"").count(), crosses.len());
+        let list = original::forbidden_list(&original::to_board(cells.as_bytes()));
+        assert_eq!(crosses.len(), list.len());
+        for cross in &crosses {
+            assert!(text.contains(&format!("<title>{cross}</title>")), "{cross}");
+        }
+        crosses_seen += crosses.len();
+    }
+    assert!(crosses_seen > 20, "{crosses_seen}");
+}
+
+/// The stones by their places in the picture, which are those of the diagram's letters: the first
+/// line is the uppermost row.
+#[test]
+fn a_picture_lies_as_the_diagram_does() {
+    for cells in some_boards() {
+        let diagram = original::to_board(cells.as_bytes()).to_string();
+        let mut expected = BTreeSet::new();
+        for (row, line) in diagram.lines().enumerate() {
+            for (column, letter) in line.split_whitespace().enumerate() {
+                let class = match letter {
+                    "o" => "black",
+                    "x" => "white",
+                    _ => continue,
+                };
+                let (x, y) = (56 + 40 * column, 56 + 40 * row);
+                expected.insert(format!("class=\"{class}\" cx=\"{x}\" cy=\"{y}\" r=\"18\""));
+            }
+        }
+        let text = picture::svg(&cells, &[], "");
+        let circles = text.split("<circle ").skip(1);
+        let head = |part: &str| part.split('>').next().map(String::from);
+        let stones = circles.filter_map(head).filter(|c| !c.contains("star"));
+        assert_eq!(stones.collect::<BTreeSet<_>>(), expected);
+    }
+}
+
+/// Every element is closed, the last opened first.
+#[test]
+fn a_picture_is_well_formed() {
+    for cells in some_boards() {
+        let text = picture::svg(&cells, &cells.forbidden_points(), "a < b & c > d");
+        assert!(text.contains("a &lt; b &amp; c &gt; d"));
+        let mut open = Vec::new();
+        for part in text.split('<').skip(1) {
+            let (tag, after) = part.split_once('>').expect("a tag ends");
+            assert!(!after.contains('>'), "{after}");
+            let name = tag.split([' ', '/']).next().unwrap_or_default();
+            if let Some(closed) = tag.strip_prefix('/') {
+                assert_eq!(open.pop(), Some(closed));
+            } else if !tag.ends_with('/') {
+                open.push(name);
+            }
+        }
+        assert_eq!(open, [""; 0]);
+    }
+}
+
+/// Remembers who was asked what, and disagrees on one question.
+struct Watched {
+    asked: Vec<(char, usize)>,
+    wrong: Option<usize>,
+}
+
+impl Race for Watched {
+    fn count(&self) -> usize {
+        3
+    }
+
+    fn agrees(&mut self, question: usize) -> bool {
+        self.wrong != Some(question)
+    }
+
+    fn original(&mut self, question: usize, _: usize) {
+        self.asked.push(('o', question));
+    }
+
+    fn ours(&mut self, question: usize, _: usize) {
+        self.asked.push(('n', question));
+    }
+}
+
+const ONE_CALL: Pace = Pace {
+    warm_up: 1,
+    rounds: 3,
+    sample: 0.0,
+};
+
+#[test]
+fn both_are_asked_in_turn_and_as_often() {
+    let (asked, wrong) = (Vec::new(), None);
+    let mut race = Watched { asked, wrong };
+    let times = race::run(&mut race, &ONE_CALL).expect("they agree");
+    assert_eq!(
+        (times.calls, times.original.len(), times.ours.len()),
+        (1, 3, 3)
+    );
+    // To find out how long a call takes, four pairs of each question come first.
+    let rounds = &race.asked[4 * 3 * 2..];
+    assert_eq!(rounds.len(), 4 * 3 * 2);
+    let mut original_first = [0; 3];
+    for (n, pair) in rounds.chunks(2).enumerate() {
+        assert_eq!((pair[0].1, pair[1].1), (n % 3, n % 3));
+        assert_ne!(pair[0].0, pair[1].0);
+        original_first[n % 3] += usize::from(pair[0].0 == 'o');
+    }
+    assert_eq!(original_first, [2, 2, 2]);
+}
+
+/// Takes a tenth of a millisecond for a call, and ten times as long for the first on either side.
+struct Slow {
+    asked: [bool; 2],
+}
+
+impl Slow {
+    fn ask(&mut self, side: usize, calls: usize) {
+        let first = !std::mem::replace(&mut self.asked[side], true);
+        let tenths = if first { calls + 9 } else { calls };
+        let (start, time) = (Instant::now(), Duration::from_micros(100) * tenths as u32);
+        while start.elapsed() < time {}
+    }
+}
+
+impl Race for Slow {
+    fn count(&self) -> usize {
+        1
+    }
+
+    fn agrees(&mut self, _: usize) -> bool {
+        true
+    }
+
+    fn original(&mut self, _: usize, calls: usize) {
+        self.ask(0, calls);
+    }
+
+    fn ours(&mut self, _: usize, calls: usize) {
+        self.ask(1, calls);
+    }
+}
+
+/// Four calls take 400 µs and eight 800 µs: what the first took is no measure.
+#[test]
+fn samples_are_as_long_as_they_should_be() {
+    let pace = Pace {
+        sample: 600_000.0,
+        ..ONE_CALL
+    };
+    let mut race = Slow { asked: [false; 2] };
+    let times = race::run(&mut race, &pace).expect("they agree");
+    assert_eq!(times.calls, 8);
+}
+
+#[test]
+fn a_difference_ends_the_run() {
+    let (asked, wrong) = (Vec::new(), Some(1));
+    let mut race = Watched { asked, wrong };
+    assert_eq!(race::run(&mut race, &ONE_CALL).err(), Some(1));
+    assert_eq!(race.asked, []);
+}
+
+/// A board whose forms say different things: each kind of question sees it.
+#[test]
+fn every_kind_of_question_sees_a_difference() {
+    let good = Ready::new([0; 225]);
+    let mut bad = good.clone();
+    // G8, I8, H7 and H9, so that H8 is a double three, and these on the cells alone.
+    for code in [97, 127, 111, 113] {
+        bad.cells[code] = 1;
+    }
+    let first = |race: &mut dyn Race| (0..race.count()).find(|&n| !race.agrees(n));
+    let (good, bad) = ([good.clone(), good], [bad.clone(), bad]);
+    assert_eq!(first(&mut Lists::new(&good)), None);
+    assert_eq!(first(&mut Lists::new(&bad)), Some(0));
+    assert_eq!(first(&mut Verdicts::new(&good)), None);
+    assert_eq!(first(&mut Verdicts::new(&bad)), Some(110));
+    for form in Form::ALL {
+        assert_eq!(first(&mut Changes::new(good.to_vec(), form)), None);
+        assert_eq!(first(&mut Changes::new(bad.to_vec(), form)), Some(0));
+        assert_eq!(first(&mut Texts::new(good.iter().collect(), form)), None);
+        assert_eq!(first(&mut Texts::new(bad.iter().collect(), form)), Some(0));
+    }
+}
+
+#[test]
+fn the_moves_of_a_game_make_its_boards() {
+    let moves = sets::moves(3791, 60);
+    assert_eq!(moves.len(), 60);
+    let mut cells = [0; 225];
+    for (n, point) in moves.iter().enumerate() {
+        assert_eq!(cells[usize::from(point.code())], 0);
+        cells[usize::from(point.code())] = if n % 2 == 0 { 1 } else { 2 };
+    }
+    assert_eq!(cells, boards::game(&mut Dice::new(3791), 60));
+}
+
+#[test]
+fn the_nested_boards_are_deep() {
+    let set = sets::nested(3, 20);
+    assert_eq!(
+        (set.boards.len(), set.name.as_str()),
+        (20, "nested 4 deep or more")
+    );
+    assert!(
+        set.boards
+            .iter()
+            .all(|ready| naive::depth(&ready.cells) >= 4)
+    );
+}
+
+#[test]
+fn a_ratio_over_one_says_that_ours_is_faster() {
+    let times = Times {
+        calls: 1,
+        original: vec![1.0, 5.0],
+        ours: vec![2.0, 2.0],
+    };
+    assert_eq!(table::Row::new("", "", &times).ratio(), 1.5);
+}
+
+#[test]
+fn a_quick_run_agrees() {
+    let mut told = 0;
+    let rows = suite::run(&Settings::quick(3), |_| told += 1).expect("the answers agree");
+    assert_eq!((rows.len(), told), (14, 14));
+    for row in &rows {
+        let name = format!("{} {}", row.question, row.boards);
+        assert!(
+            row.asked > 0 && row.original.p50 > 0.0 && row.ours.p50 > 0.0,
+            "{name}"
+        );
+    }
+    let lines = |text: String| text.lines().count();
+    assert_eq!(lines(table::plain(&rows)), 15);
+    assert_eq!(lines(table::markdown(&rows)), 16);
+}
+
+fn bench(arguments: &[&str]) -> Output {
+    let program = env!("CARGO_BIN_EXE_bench");
+    let run = Command::new(program).args(arguments).output();
+    run.expect("the program starts")
+}
+
+#[test]
+fn the_program_prints_a_table() {
+    let run = bench(&["quick", "7", "--markdown"]);
+    let text = String::from_utf8(run.stdout).expect("UTF-8");
+    assert!(run.status.success(), "{text}");
+    assert!(text.contains("- Seed: 7.\n"), "{text}");
+    let table: Vec<&str> = text.lines().filter(|l| l.starts_with('|')).collect();
+    assert_eq!(table.len(), 16, "{text}");
+    assert!(table.iter().all(|l| l.matches('|').count() == 12), "{text}");
+    assert_eq!(bench(&["soon"]).status.code(), Some(2));
+}
+
+#[test]
+fn the_model_is_that_of_the_first_processor() {
+    let told = "processor\t: 0\nmodel name\t: Some Kind @ 2 GHz\nmodel name\t: Other\n";
+    assert_eq!(machine::model_name(told), Some("Some Kind @ 2 GHz"));
+    assert_eq!(machine::model_name("processor : 0\n"), None);
+}

@@ -1,0 +1,153 @@
+//! A renju referee whose answers are proved to be those of the rules: boards, rows, verdicts and
+//! the points that are forbidden to Black.
+//!
+//! The functions of `crates/host` are proved for all input and compiled into an archive, which
+//! this crate links and makes safe and typed. A board is [`Cells`], 225 bytes by value. Nothing
+//! here panics or keeps state, and only texts use the heap.
+//!
+//! # A frame server
+//!
+//! The table is behind a lock, and each frame shows the points that Black may not play. The cells
+//! can be copied out, so that the lock is not held while they are asked.
+//!
+//! ```
+//! use renju::{Cells, Colour, Crosses, Point, Refusal};
+//! use std::sync::{Mutex, PoisonError};
+//!
+//! struct Table {
+//!     cells: Mutex<Cells>,
+//! }
+//!
+//! impl Table {
+//!     fn play(&self, point: Point, colour: Colour) {
+//!         let mut cells = self.cells.lock().unwrap_or_else(PoisonError::into_inner);
+//!         cells.put(point, colour);
+//!     }
+//!
+//!     fn crosses(&self) -> Crosses {
+//!         let cells = *self.cells.lock().unwrap_or_else(PoisonError::into_inner);
+//!         cells.forbidden_points()
+//!     }
+//! }
+//!
+//! let table = Table {
+//!     cells: Mutex::new("G8,I8,H7/A1".parse()?),
+//! };
+//! assert!(table.crosses().is_empty());
+//!
+//! table.play("H9".parse()?, Colour::Black);
+//! for cross in &table.crosses() {
+//!     assert_eq!(cross.to_string(), "H8 DoubleThree");
+//!     println!("a cross at column {}, row {}", cross.point.x(), cross.point.y());
+//! }
+//! # assert_eq!(table.crosses().len(), 1);
+//! # Ok::<(), Refusal>(())
+//! ```
+//!
+//! # Refusals
+//!
+//! What can be refused is a `Result` with a [`Refusal`], which has the number that the Rattle and
+//! the C functions give too. Numbers and bytes from outside are tested where they become a
+//! [`Point`], a [`Colour`], a [`Kind`], a [`View`], a [`Line`] or [`Cells`]; after that there is
+//! little left to refuse.
+//!
+//! "Document 01" in this crate is the project's paper on the rules and the refusals; its sentences
+//! stand beside the definitions in `crates/rules/specs`.
+
+#![deny(unsafe_code)]
+#![deny(unsafe_op_in_unsafe_fn)]
+#![warn(missing_docs)]
+
+mod cells;
+mod colour;
+mod kind;
+mod line;
+mod list;
+mod point;
+mod questions;
+#[allow(unsafe_code)] // The calls into the archive.
+pub mod raw;
+mod refusal;
+mod row;
+mod verdict;
+mod view;
+
+pub use cells::Cells;
+pub use colour::Colour;
+pub use kind::Kind;
+pub use line::Line;
+pub use list::{Crosses, List, Points, Rows, RowsOn};
+pub use point::Point;
+pub use refusal::Refusal;
+pub use row::Row;
+pub use verdict::{Cross, Verdict};
+pub use view::View;
+
+/// How many columns the board has, and how many rows.
+///
+/// ```
+/// assert!(renju::Point::new(renju::SIDE - 1, renju::SIDE - 1).is_ok());
+/// assert!(renju::Point::new(renju::SIDE, 0).is_err());
+/// ```
+pub const SIDE: u8 = 15;
+
+/// How many cells a board has: 225.
+///
+/// ```
+/// assert_eq!(renju::Cells::new().as_bytes().len(), renju::CELLS);
+/// ```
+pub const CELLS: usize = 225;
+
+/// How many bytes the plain diagram has.
+///
+/// ```
+/// assert_eq!(renju::Cells::new().to_string().len(), renju::DIAGRAM);
+/// ```
+pub const DIAGRAM: usize = 464;
+
+/// How many bytes the numbered diagram has.
+///
+/// ```
+/// assert_eq!(renju::Cells::new().to_pretty_string().len(), renju::PRETTY);
+/// ```
+pub const PRETTY: usize = 527;
+
+/// How many rows of a kind a board can have: one for each window of five
+/// cells, on a board that is full of White's stones.
+///
+/// ```
+/// use renju::{Cells, Colour, Kind};
+///
+/// let full = Cells::from_bytes(&[2; renju::CELLS])?;
+/// assert_eq!(full.rows(Colour::White, Kind::Five).len(), renju::ROWS);
+/// # Ok::<(), renju::Refusal>(())
+/// ```
+pub const ROWS: usize = 572;
+
+/// How many rows of a kind can go through one point: five windows on each of
+/// its four lines.
+///
+/// ```
+/// use renju::{Cells, Colour, Kind};
+///
+/// let full = Cells::from_bytes(&[2; renju::CELLS])?;
+/// let rows = full.rows_on("H8".parse()?, Colour::White, Kind::Five);
+/// assert_eq!(rows.len(), renju::ROWS_ON);
+/// # Ok::<(), renju::Refusal>(())
+/// ```
+pub const ROWS_ON: usize = 20;
+
+/// How many bytes a text may have.
+///
+/// ```
+/// use renju::{Cells, Refusal};
+///
+/// assert_eq!(Cells::read(&[b' '; renju::TEXT]), Err(Refusal::LineCount));
+/// assert_eq!(Cells::read(&[b' '; renju::TEXT + 1]), Err(Refusal::TextLength));
+/// ```
+pub const TEXT: usize = 4096;
+
+// The Rust example of the README runs as a test too.
+#[cfg(doctest)]
+#[doc = include_str!("../README.md")]
+struct Readme;

@@ -1,0 +1,175 @@
+//! The 225 points of the board.
+
+use crate::raw::renju_turn_point;
+use crate::refusal::given;
+use crate::{CELLS, Cells, Colour, Refusal, SIDE, View};
+use std::fmt;
+use std::str::FromStr;
+
+/// A point of the board: column x and row y, each 0 to 14.
+///
+/// Its code is 15 x + y: A1 is 0, H8, the centre, is 112, O15 is 224. Points
+/// are in order of their codes.
+///
+/// # Examples
+///
+/// ```
+/// use renju::Point;
+///
+/// let centre: Point = "H8".parse()?;
+/// assert_eq!((centre.x(), centre.y(), centre.code()), (7, 7, 112));
+/// assert_eq!(centre.to_string(), "H8");
+/// # Ok::<(), renju::Refusal>(())
+/// ```
+#[derive(Clone, Copy, PartialEq, Eq, PartialOrd, Ord, Hash)]
+pub struct Point(u8);
+
+impl Point {
+    /// The point of column `x` and row `y`; refusal 8 where one is over 14.
+    ///
+    /// ```
+    /// use renju::{Point, Refusal};
+    ///
+    /// assert_eq!(Point::new(2, 14)?.to_string(), "C15");
+    /// assert_eq!(Point::new(2, 15), Err(Refusal::Point));
+    /// # Ok::<(), renju::Refusal>(())
+    /// ```
+    pub const fn new(x: u8, y: u8) -> Result<Self, Refusal> {
+        if x < SIDE && y < SIDE {
+            Ok(Self(x * SIDE + y))
+        } else {
+            Err(Refusal::Point)
+        }
+    }
+
+    /// The point of a code; refusal 8 for one over 224.
+    ///
+    /// ```
+    /// use renju::{Point, Refusal};
+    ///
+    /// assert_eq!(Point::from_code(224)?.to_string(), "O15");
+    /// assert_eq!(Point::from_code(225), Err(Refusal::Point));
+    /// # Ok::<(), renju::Refusal>(())
+    /// ```
+    pub const fn from_code(code: u8) -> Result<Self, Refusal> {
+        if (code as usize) < CELLS {
+            Ok(Self(code))
+        } else {
+            Err(Refusal::Point)
+        }
+    }
+
+    /// The point of a code that the archive gave: below 225, by contract.
+    pub(crate) const fn given(code: u8) -> Self {
+        Self(code)
+    }
+
+    /// All points, by code.
+    ///
+    /// ```
+    /// use renju::Point;
+    ///
+    /// assert_eq!(Point::all().count(), 225);
+    /// assert_eq!(Point::all().nth(15).map(|p| p.to_string()), Some("B1".to_string()));
+    /// ```
+    pub fn all() -> impl ExactSizeIterator<Item = Self> + DoubleEndedIterator + Clone {
+        (0..SIDE * SIDE).map(Self)
+    }
+
+    /// 15 x + y.
+    ///
+    /// ```
+    /// assert_eq!(renju::Point::new(7, 7)?.code(), 112);
+    /// # Ok::<(), renju::Refusal>(())
+    /// ```
+    pub const fn code(self) -> u8 {
+        self.0
+    }
+
+    /// The column: 0 for A, 14 for O.
+    ///
+    /// ```
+    /// assert_eq!("C15".parse::<renju::Point>()?.x(), 2);
+    /// # Ok::<(), renju::Refusal>(())
+    /// ```
+    pub const fn x(self) -> u8 {
+        self.0 / SIDE
+    }
+
+    /// The row: 0 for 1, 14 for 15.
+    ///
+    /// ```
+    /// assert_eq!("C15".parse::<renju::Point>()?.y(), 14);
+    /// # Ok::<(), renju::Refusal>(())
+    /// ```
+    pub const fn y(self) -> u8 {
+        self.0 % SIDE
+    }
+
+    /// Where a view sends the point.
+    ///
+    /// ```
+    /// use renju::{Point, View};
+    ///
+    /// let c15: Point = "C15".parse()?;
+    /// assert_eq!(c15.turned(View::LeftRight), "M15".parse()?);
+    /// # Ok::<(), renju::Refusal>(())
+    /// ```
+    pub fn turned(self, view: View) -> Self {
+        // A turned code is a code, so the low byte has it whole.
+        Self::given(given(renju_turn_point(self.0, view.number())) as u8)
+    }
+}
+
+/// A point is read as the texts of boards have it: a letter A to O or a to o,
+/// then at most two bytes that are a number 1 to 15, with space around it. As
+/// in the original, what follows is not looked at: `H123` is H12. A text of
+/// over 2,047 bytes is refused 1.
+///
+/// ```
+/// use renju::{Point, Refusal};
+///
+/// assert_eq!(" h8 ".parse::<Point>(), Point::new(7, 7));
+/// assert_eq!("P8".parse::<Point>(), Err(Refusal::XPart));
+/// assert_eq!("H16".parse::<Point>(), Err(Refusal::YPart));
+/// ```
+impl FromStr for Point {
+    type Err = Refusal;
+
+    // There is no second reader of points here: the proved one is handed the
+    // point as two moves, Black's and White's, and White's stone then shows
+    // where it is. A comma or a slash would part the text, so each is handed
+    // over as a dot, which like them is no space, letter, sign or digit.
+    fn from_str(text: &str) -> Result<Self, Refusal> {
+        let point = text.replace([',', '/'], ".");
+        let cells = Cells::read(format!("{point},{point}").as_bytes())?;
+        let stone = cells.stones(Colour::White).first().copied();
+        stone.ok_or(Refusal::XPart)
+    }
+}
+
+impl fmt::Debug for Point {
+    fn fmt(&self, f: &mut fmt::Formatter<'_>) -> fmt::Result {
+        write!(f, "Point({self})")
+    }
+}
+
+impl TryFrom<u8> for Point {
+    type Error = Refusal;
+
+    fn try_from(code: u8) -> Result<Self, Refusal> {
+        Self::from_code(code)
+    }
+}
+
+impl From<Point> for u8 {
+    fn from(point: Point) -> u8 {
+        point.code()
+    }
+}
+
+impl fmt::Display for Point {
+    fn fmt(&self, f: &mut fmt::Formatter<'_>) -> fmt::Result {
+        write!(f, "{}{}", char::from(b'A' + self.x()), self.y() + 1)
+    }
+}

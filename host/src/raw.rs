@@ -1,0 +1,455 @@
+//! The functions of the host interface as they are, over slices: one `u32` each, the refusal in the
+//! high half (0: none), the answer in the low.
+//!
+//! They are for callers that keep their own buffers. Any bytes and numbers may be handed to them. A
+//! refusal leaves every lent byte as it was; an answer writes its own leading bytes of the lent
+//! buffer ([`renju_put`] and [`renju_remove`]: one cell) and no other. Cells are 225 bytes in code
+//! order, 0 empty, 1 black, 2 white. What each can refuse is said with it; where several apply, the
+//! first named is given.
+//!
+//! # Examples
+//!
+//! ```
+//! use renju::raw::{renju_forbidden_points, renju_read};
+//!
+//! let (mut cells, mut out) = ([0; 225], [0; 450]);
+//! assert_eq!(renju_read(b"G8,I8,H7,H9/A1", &mut cells), 225);
+//! // One point: a double three (1) at H8 (112).
+//! assert_eq!(renju_forbidden_points(&cells, &mut out), 1);
+//! assert_eq!(out[..2], [1, 112]);
+//! // With no room for it: refusal 13, and the word has nothing else.
+//! assert_eq!(renju_forbidden_points(&cells, &mut out[..1]), 13 << 16);
+//! ```
+
+pub use crate::refusal::answer;
+
+mod ffi {
+    // A slice is two arguments: its pointer, then its length.
+    unsafe extern "C" {
+        pub fn renju_read(
+            text: *const u8,
+            text_len: usize,
+            cells: *mut u8,
+            cells_len: usize,
+        ) -> u32;
+        pub fn renju_to_string(
+            cells: *const u8,
+            cells_len: usize,
+            out: *mut u8,
+            out_len: usize,
+        ) -> u32;
+        pub fn renju_to_pretty_string(
+            cells: *const u8,
+            cells_len: usize,
+            out: *mut u8,
+            out_len: usize,
+        ) -> u32;
+        pub fn renju_put(cells: *mut u8, cells_len: usize, code: u8, colour: u8) -> u32;
+        pub fn renju_remove(cells: *mut u8, cells_len: usize, code: u8) -> u32;
+        pub fn renju_stones(
+            cells: *const u8,
+            cells_len: usize,
+            colour: u8,
+            out: *mut u8,
+            out_len: usize,
+        ) -> u32;
+        pub fn renju_empty_points(
+            cells: *const u8,
+            cells_len: usize,
+            out: *mut u8,
+            out_len: usize,
+        ) -> u32;
+        pub fn renju_neighbors(
+            cells: *const u8,
+            cells_len: usize,
+            code: u8,
+            distance: u8,
+            only_empty: bool,
+            out: *mut u8,
+            out_len: usize,
+        ) -> u32;
+        pub fn renju_rows(
+            cells: *const u8,
+            cells_len: usize,
+            colour: u8,
+            kind: u8,
+            out: *mut u8,
+            out_len: usize,
+        ) -> u32;
+        pub fn renju_rows_on(
+            cells: *const u8,
+            cells_len: usize,
+            code: u8,
+            colour: u8,
+            kind: u8,
+            out: *mut u8,
+            out_len: usize,
+        ) -> u32;
+        pub fn renju_four_eyes_on(
+            cells: *const u8,
+            cells_len: usize,
+            code: u8,
+            colour: u8,
+            out: *mut u8,
+            out_len: usize,
+        ) -> u32;
+        pub fn renju_forbidden(cells: *const u8, cells_len: usize, code: u8) -> u32;
+        pub fn renju_forbidden_strict(cells: *const u8, cells_len: usize, code: u8) -> u32;
+        pub fn renju_forbidden_points(
+            cells: *const u8,
+            cells_len: usize,
+            out: *mut u8,
+            out_len: usize,
+        ) -> u32;
+        pub fn renju_turn(
+            cells: *const u8,
+            cells_len: usize,
+            view: u8,
+            out: *mut u8,
+            out_len: usize,
+        ) -> u32;
+        /// Where a view sends a point: the turned code. Refusals 8, 12.
+        ///
+        /// ```
+        /// # use renju::raw::*;
+        /// // A quarter turn takes A1 to A15.
+        /// assert_eq!(renju_turn_point(0, 1), 14);
+        /// assert_eq!(renju_turn_point(225, 1), 8 << 16);
+        /// ```
+        pub safe fn renju_turn_point(code: u8, view: u8) -> u32;
+        /// Where a colour's rows of a kind start on a line alone: a mask, bit j for
+        /// cell j. Refusals 10 (size), 9, 12.
+        ///
+        /// ```
+        /// # use renju::raw::*;
+        /// // Black on cells 2, 3 and 4 of fifteen: Threes from 1 and from 2.
+        /// assert_eq!(renju_line_starts(0b11100, 0, 15, 1, 1), 0b110);
+        /// assert_eq!(renju_line_starts(0b11100, 0, 4, 1, 1), 10 << 16);
+        /// ```
+        pub safe fn renju_line_starts(
+            blacks: u16,
+            whites: u16,
+            size: u8,
+            colour: u8,
+            kind: u8,
+        ) -> u32;
+        /// Those through a cell: a mask of starts. Refusals 10 (size), 9, 12, 10
+        /// (cell).
+        ///
+        /// ```
+        /// # use renju::raw::*;
+        /// assert_eq!(renju_line_starts_on(0b11100, 0, 15, 1, 1, 1), 0b010);
+        /// assert_eq!(renju_line_starts_on(0b11100, 0, 15, 1, 1, 15), 10 << 16);
+        /// ```
+        pub safe fn renju_line_starts_on(
+            blacks: u16,
+            whites: u16,
+            size: u8,
+            colour: u8,
+            kind: u8,
+            cell: u8,
+        ) -> u32;
+        /// The eyes of a colour's rows of a kind on a line alone: a mask, bit i for
+        /// cell i. Refusals 10 (size), 9, 12.
+        ///
+        /// ```
+        /// # use renju::raw::*;
+        /// // Black on cells 0 to 3 of five: a Four, its eye on cell 4.
+        /// assert_eq!(renju_line_eyes(0b01111, 0, 5, 1, 4), 0b10000);
+        /// assert_eq!(renju_line_eyes(0b01111, 0b00001, 5, 1, 4), 9 << 16);
+        /// ```
+        pub safe fn renju_line_eyes(
+            blacks: u16,
+            whites: u16,
+            size: u8,
+            colour: u8,
+            kind: u8,
+        ) -> u32;
+    }
+}
+
+pub use ffi::{renju_line_eyes, renju_line_starts, renju_line_starts_on, renju_turn_point};
+
+// SAFETY of every call below: a slice's pointer and length name bytes that may be read, and
+// written where the slice is `&mut`, until the call returns; the functions keep no pointer and
+// touch no byte outside.
+
+/// The board that a text says: 225, its cells written. Refusals 1, 2, of 3 to
+/// 7 the first that the reading meets, 13.
+///
+/// ```
+/// # use renju::raw::*;
+/// let mut cells = [0; 225];
+/// assert_eq!(renju_read(b"H8,I9", &mut cells), 225);
+/// assert_eq!((cells[112], cells[128]), (1, 2));
+/// assert_eq!(renju_read(b"H8,P9", &mut cells), 3 << 16);
+/// ```
+pub fn renju_read(text: &[u8], cells: &mut [u8]) -> u32 {
+    unsafe { ffi::renju_read(text.as_ptr(), text.len(), cells.as_mut_ptr(), cells.len()) }
+}
+
+/// The plain diagram: 464, its bytes written. Refusals 9, 13.
+///
+/// ```
+/// # use renju::raw::*;
+/// let mut cells = [0; 225];
+/// renju_read(b"H8,I9", &mut cells);
+/// let mut out = [0; 464];
+/// assert_eq!(renju_to_string(&cells, &mut out), 464);
+/// // Row 15 comes first.
+/// assert!(out.starts_with(b" . . . . . . . . . . . . . . .\n"));
+/// ```
+pub fn renju_to_string(cells: &[u8], out: &mut [u8]) -> u32 {
+    unsafe { ffi::renju_to_string(cells.as_ptr(), cells.len(), out.as_mut_ptr(), out.len()) }
+}
+
+/// The numbered diagram: 527, its bytes written. Refusals 9, 13.
+///
+/// ```
+/// # use renju::raw::*;
+/// let mut cells = [0; 225];
+/// renju_read(b"H8,I9", &mut cells);
+/// let mut out = [0; 527];
+/// assert_eq!(renju_to_pretty_string(&cells, &mut out), 527);
+/// assert!(out.starts_with(b"15 . . ."));
+/// ```
+pub fn renju_to_pretty_string(cells: &[u8], out: &mut [u8]) -> u32 {
+    unsafe { ffi::renju_to_pretty_string(cells.as_ptr(), cells.len(), out.as_mut_ptr(), out.len()) }
+}
+
+/// A stone put at a point: 0, one cell changed. Refusals 9, 8, 12.
+///
+/// ```
+/// # use renju::raw::*;
+/// let mut cells = [0; 225];
+/// assert_eq!(renju_put(&mut cells, 112, 1), 0);
+/// assert_eq!(cells[112], 1);
+/// assert_eq!(renju_put(&mut cells, 112, 3), 12 << 16);
+/// ```
+pub fn renju_put(cells: &mut [u8], code: u8, colour: u8) -> u32 {
+    unsafe { ffi::renju_put(cells.as_mut_ptr(), cells.len(), code, colour) }
+}
+
+/// A point made empty: 0, one cell changed. Refusals 9, 8.
+///
+/// ```
+/// # use renju::raw::*;
+/// let mut cells = [0; 225];
+/// renju_read(b"H8,I9", &mut cells);
+/// assert_eq!(renju_remove(&mut cells, 112), 0);
+/// assert_eq!(cells[112], 0);
+/// assert_eq!(renju_remove(&mut cells, 225), 8 << 16);
+/// ```
+pub fn renju_remove(cells: &mut [u8], code: u8) -> u32 {
+    unsafe { ffi::renju_remove(cells.as_mut_ptr(), cells.len(), code) }
+}
+
+/// A colour's stones: how many, their codes written, ascending. Refusals 9,
+/// 12, 13.
+///
+/// ```
+/// # use renju::raw::*;
+/// let mut cells = [0; 225];
+/// renju_read(b"G8,I8,H7,H9/A1", &mut cells);
+/// let mut out = [0; 225];
+/// assert_eq!(renju_stones(&cells, 1, &mut out), 4);
+/// assert_eq!(out[..4], [97, 111, 113, 127]);
+/// ```
+pub fn renju_stones(cells: &[u8], colour: u8, out: &mut [u8]) -> u32 {
+    unsafe {
+        ffi::renju_stones(
+            cells.as_ptr(),
+            cells.len(),
+            colour,
+            out.as_mut_ptr(),
+            out.len(),
+        )
+    }
+}
+
+/// The empty points: how many, their codes written, ascending. Refusals 9, 13.
+///
+/// ```
+/// # use renju::raw::*;
+/// let mut cells = [0; 225];
+/// renju_read(b"G8,I8,H7,H9/A1", &mut cells);
+/// let mut out = [0; 225];
+/// assert_eq!(renju_empty_points(&cells, &mut out), 220);
+/// // A1 has a stone.
+/// assert_eq!(out[0], 1);
+/// ```
+pub fn renju_empty_points(cells: &[u8], out: &mut [u8]) -> u32 {
+    unsafe { ffi::renju_empty_points(cells.as_ptr(), cells.len(), out.as_mut_ptr(), out.len()) }
+}
+
+/// The points up to a distance on the four lines through a point: how many,
+/// their codes written, line by line. At most 60. Refusals 9, 8, 12, 13.
+///
+/// ```
+/// # use renju::raw::*;
+/// let (cells, mut out) = ([0; 225], [0; 60]);
+/// // A1 on each of its four lines, with A2, B1 and B2.
+/// assert_eq!(renju_neighbors(&cells, 0, 1, false, &mut out), 7);
+/// assert_eq!(out[..7], [0, 1, 0, 15, 0, 16, 0]);
+/// ```
+pub fn renju_neighbors(
+    cells: &[u8],
+    code: u8,
+    distance: u8,
+    only_empty: bool,
+    out: &mut [u8],
+) -> u32 {
+    unsafe {
+        ffi::renju_neighbors(
+            cells.as_ptr(),
+            cells.len(),
+            code,
+            distance,
+            only_empty,
+            out.as_mut_ptr(),
+            out.len(),
+        )
+    }
+}
+
+/// A colour's rows of a kind: how many, each in four bytes, key, start, stones
+/// mask, eyes mask. At most 572. Refusals 9, 12, 13.
+///
+/// ```
+/// # use renju::raw::*;
+/// let mut cells = [0; 225];
+/// renju_read(b"E8,F8,G8,H8/I8", &mut cells);
+/// let mut out = [0; 4 * 572];
+/// // One Four on row 8: its window is D8 to H8, its eye D8.
+/// assert_eq!(renju_rows(&cells, 1, 4, &mut out), 1);
+/// assert_eq!(out[..4], [22, 3, 0b11110, 0b00001]);
+/// ```
+pub fn renju_rows(cells: &[u8], colour: u8, kind: u8, out: &mut [u8]) -> u32 {
+    unsafe {
+        ffi::renju_rows(
+            cells.as_ptr(),
+            cells.len(),
+            colour,
+            kind,
+            out.as_mut_ptr(),
+            out.len(),
+        )
+    }
+}
+
+/// Those through a point: how many, four bytes each. At most 20. Refusals 9,
+/// 8, 12, 13.
+///
+/// ```
+/// # use renju::raw::*;
+/// let mut cells = [0; 225];
+/// renju_read(b"E8,F8,G8,H8/I8", &mut cells);
+/// let mut out = [0; 4 * 20];
+/// // Through D8, the Four's eye; none through C8.
+/// assert_eq!(renju_rows_on(&cells, 52, 1, 4, &mut out), 1);
+/// assert_eq!(renju_rows_on(&cells, 37, 1, 4, &mut out), 0);
+/// ```
+pub fn renju_rows_on(cells: &[u8], code: u8, colour: u8, kind: u8, out: &mut [u8]) -> u32 {
+    unsafe {
+        ffi::renju_rows_on(
+            cells.as_ptr(),
+            cells.len(),
+            code,
+            colour,
+            kind,
+            out.as_mut_ptr(),
+            out.len(),
+        )
+    }
+}
+
+/// The points that make a five of a colour's Fours through a point: how many,
+/// their codes written, line by line. Refusals 9, 8, 12, 13.
+///
+/// ```
+/// # use renju::raw::*;
+/// let mut cells = [0; 225];
+/// renju_read(b"E8,F8,G8,H8/A1", &mut cells);
+/// let mut out = [0; 225];
+/// // Through F8: D8 and I8.
+/// assert_eq!(renju_four_eyes_on(&cells, 82, 1, &mut out), 2);
+/// assert_eq!(out[..2], [52, 127]);
+/// ```
+pub fn renju_four_eyes_on(cells: &[u8], code: u8, colour: u8, out: &mut [u8]) -> u32 {
+    unsafe {
+        ffi::renju_four_eyes_on(
+            cells.as_ptr(),
+            cells.len(),
+            code,
+            colour,
+            out.as_mut_ptr(),
+            out.len(),
+        )
+    }
+}
+
+/// The plain verdict at an empty point: 0 none, 1 double three, 2 double four,
+/// 3 overline. Refusals 9, 8, 11.
+///
+/// ```
+/// # use renju::raw::*;
+/// let mut cells = [0; 225];
+/// renju_read(b"G8,I8,H7,H9/A1", &mut cells);
+/// assert_eq!(renju_forbidden(&cells, 112), 1);
+/// assert_eq!(renju_forbidden(&cells, 0), 11 << 16);
+/// ```
+pub fn renju_forbidden(cells: &[u8], code: u8) -> u32 {
+    unsafe { ffi::renju_forbidden(cells.as_ptr(), cells.len(), code) }
+}
+
+/// The strict verdict, which is none at an occupied point and where a five is
+/// completed: 0 to 3. Refusals 9, 8.
+///
+/// ```
+/// # use renju::raw::*;
+/// let mut cells = [0; 225];
+/// renju_read(b"G8,I8,H7,H9/A1", &mut cells);
+/// assert_eq!(renju_forbidden_strict(&cells, 112), 1);
+/// assert_eq!(renju_forbidden_strict(&cells, 0), 0);
+/// ```
+pub fn renju_forbidden_strict(cells: &[u8], code: u8) -> u32 {
+    unsafe { ffi::renju_forbidden_strict(cells.as_ptr(), cells.len(), code) }
+}
+
+/// The points forbidden to Black: how many, each in two bytes, kind and code,
+/// by code. Refusals 9, 13.
+///
+/// ```
+/// # use renju::raw::*;
+/// let mut cells = [0; 225];
+/// renju_read(b"G8,I8,H7,H9/A1", &mut cells);
+/// let mut out = [0; 450];
+/// assert_eq!(renju_forbidden_points(&cells, &mut out), 1);
+/// assert_eq!(out[..2], [1, 112]);
+/// ```
+pub fn renju_forbidden_points(cells: &[u8], out: &mut [u8]) -> u32 {
+    unsafe { ffi::renju_forbidden_points(cells.as_ptr(), cells.len(), out.as_mut_ptr(), out.len()) }
+}
+
+/// The cells in a view: 225, the turned cells written. Refusals 9, 12, 13.
+///
+/// ```
+/// # use renju::raw::*;
+/// let mut cells = [0; 225];
+/// renju_read(b"G8,I8,H7,H9/A1", &mut cells);
+/// let mut out = [0; 225];
+/// assert_eq!(renju_turn(&cells, 1, &mut out), 225);
+/// // White's stone at A1 is at A15 now.
+/// assert_eq!(out[14], 2);
+/// ```
+pub fn renju_turn(cells: &[u8], view: u8, out: &mut [u8]) -> u32 {
+    unsafe {
+        ffi::renju_turn(
+            cells.as_ptr(),
+            cells.len(),
+            view,
+            out.as_mut_ptr(),
+            out.len(),
+        )
+    }
+}

@@ -1,0 +1,115 @@
+//! The eight views of the board.
+
+use crate::Refusal;
+
+/// One of the eight ways to lay the board before a player: four turns, and
+/// four mirrors (section 6 of document 01). The first letter is x, to the
+/// right; the number is y, upwards.
+///
+/// # Examples
+///
+/// ```
+/// use renju::{Point, View};
+///
+/// let a1: Point = "A1".parse()?;
+/// let corners = View::ALL.map(|view| a1.turned(view).to_string());
+/// assert_eq!(corners, ["A1", "A15", "O15", "O1", "O1", "A15", "A1", "O15"]);
+/// # Ok::<(), renju::Refusal>(())
+/// ```
+#[derive(Clone, Copy, Debug, PartialEq, Eq, PartialOrd, Ord, Hash)]
+#[repr(u8)]
+pub enum View {
+    /// 0, (x, y): as it is.
+    Same = 0,
+    /// 1, (y, 14 − x): a quarter turn clockwise.
+    QuarterRight = 1,
+    /// 2, (14 − x, 14 − y): half a turn.
+    HalfTurn = 2,
+    /// 3, (14 − y, x): a quarter turn the other way.
+    QuarterLeft = 3,
+    /// 4, (14 − x, y): left and right changed over.
+    LeftRight = 4,
+    /// 5, (x, 14 − y): top and bottom changed over.
+    TopBottom = 5,
+    /// 6, (y, x): mirrored in the diagonal from A1 to O15.
+    Ascending = 6,
+    /// 7, (14 − y, 14 − x): mirrored in the diagonal from A15 to O1.
+    Descending = 7,
+}
+
+impl View {
+    /// All eight, by number.
+    ///
+    /// ```
+    /// use renju::{Cells, View};
+    ///
+    /// // The same crosses in every view, each at its turned point.
+    /// let cells: Cells = "E8,F8,G8,H9,H10,H11/A1".parse()?;
+    /// for view in View::ALL {
+    ///     let cross = cells.turned(view).forbidden_points()[0];
+    ///     assert_eq!(cross.point, cells.forbidden_points()[0].point.turned(view));
+    /// }
+    /// # Ok::<(), renju::Refusal>(())
+    /// ```
+    pub const ALL: [Self; 8] = [
+        Self::Same,
+        Self::QuarterRight,
+        Self::HalfTurn,
+        Self::QuarterLeft,
+        Self::LeftRight,
+        Self::TopBottom,
+        Self::Ascending,
+        Self::Descending,
+    ];
+
+    /// The view's number, 0 to 7.
+    ///
+    /// ```
+    /// assert_eq!(renju::View::HalfTurn.number(), 2);
+    /// ```
+    pub const fn number(self) -> u8 {
+        self as u8
+    }
+
+    /// The view of a number; refusal 12 for one over 7.
+    ///
+    /// ```
+    /// use renju::{Refusal, View};
+    ///
+    /// assert_eq!(View::from_number(4), Ok(View::LeftRight));
+    /// assert_eq!(View::from_number(8), Err(Refusal::Number));
+    /// ```
+    pub const fn from_number(number: u8) -> Result<Self, Refusal> {
+        Ok(match number {
+            0 => Self::Same,
+            1 => Self::QuarterRight,
+            2 => Self::HalfTurn,
+            3 => Self::QuarterLeft,
+            4 => Self::LeftRight,
+            5 => Self::TopBottom,
+            6 => Self::Ascending,
+            7 => Self::Descending,
+            _ => return Err(Refusal::Number),
+        })
+    }
+
+    /// The view that turns this one back: a point that a player names in
+    /// his own view is the server's point in the inverse view.
+    ///
+    /// ```
+    /// use renju::{Point, View};
+    ///
+    /// let h9: Point = "H9".parse()?;
+    /// let view = View::QuarterRight;
+    /// assert_eq!(h9.turned(view).turned(view.inverse()), h9);
+    /// # Ok::<(), renju::Refusal>(())
+    /// ```
+    pub const fn inverse(self) -> Self {
+        match self {
+            Self::QuarterRight => Self::QuarterLeft,
+            Self::QuarterLeft => Self::QuarterRight,
+            // Half a turn and the mirrors undo themselves.
+            same => same,
+        }
+    }
+}

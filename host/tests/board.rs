@@ -1,0 +1,209 @@
+//! Boards made, read, written, changed and turned.
+
+mod common;
+
+use common::{Dice, boards};
+use renju::{CELLS, Cells, Colour, DIAGRAM, PRETTY, Point, Refusal, View};
+use std::collections::HashSet;
+
+fn point(text: &str) -> Point {
+    text.parse().expect("a point")
+}
+
+fn cells(text: &str) -> Cells {
+    text.parse().expect("a board")
+}
+
+#[test]
+fn points_by_code_and_by_place() {
+    for code in 0..=u8::MAX {
+        let made = Point::from_code(code);
+        assert_eq!(Point::try_from(code), made);
+        if code < 225 {
+            let point = made.unwrap();
+            assert_eq!((point.code(), u8::from(point)), (code, code));
+            assert_eq!(Point::new(point.x(), point.y()), made);
+        } else {
+            assert_eq!(made, Err(Refusal::Point));
+        }
+    }
+    assert_eq!(Point::new(15, 0), Err(Refusal::Point));
+    assert_eq!(Point::new(0, 15), Err(Refusal::Point));
+    assert_eq!(Point::new(255, 255), Err(Refusal::Point));
+    assert!(Point::all().map(Point::code).eq(0..225));
+}
+
+#[test]
+fn points_written_and_read() {
+    for point in Point::all() {
+        let text = point.to_string();
+        assert_eq!(text.parse(), Ok(point));
+        assert_eq!(format!("\t{}\n", text.to_lowercase()).parse(), Ok(point));
+    }
+    assert_eq!(point("A1").code(), 0);
+    assert_eq!(point("H8").code(), 112);
+    assert_eq!(point("O15").code(), 224);
+    assert_eq!(format!("{:?}", point("H8")), "Point(H8)");
+}
+
+/// Section 7's odd points, and texts that are more than one point.
+#[test]
+fn odd_points() {
+    for (text, same) in [
+        ("H123", "H12"),
+        ("H+12", "H1"),
+        ("H08", "H8"),
+        ("H12,A1", "H12"),
+        ("H12/A1", "H12"),
+        ("H12\nA1", "H12"),
+    ] {
+        assert_eq!(text.parse(), Ok(point(same)), "{text:?}");
+    }
+    for text in [
+        "H8x", "H 8", "H0", "H16", "H", "H8,", "H8,A1", "H8/A1", "H,8",
+    ] {
+        assert_eq!(text.parse::<Point>(), Err(Refusal::YPart), "{text:?}");
+    }
+    for text in ["", " ", "P8", "8", ",", "/", ",H8", "/H8", "-"] {
+        assert_eq!(text.parse::<Point>(), Err(Refusal::XPart), "{text:?}");
+    }
+    assert_eq!("é8".parse::<Point>(), Err(Refusal::TextByte));
+    let long = |bytes| format!("{:bytes$}", "H8").parse::<Point>();
+    assert_eq!(long(2047), Ok(point("H8")));
+    assert_eq!(long(2048), Err(Refusal::TextLength));
+}
+
+#[test]
+fn bytes_in_and_out() {
+    for cells in boards(50, 1) {
+        let bytes = *cells.as_bytes();
+        assert_eq!(Cells::from_bytes(&bytes), Ok(cells));
+        assert_eq!(Cells::try_from(bytes), Ok(cells));
+        assert_eq!(Cells::try_from(&bytes[..]), Ok(cells));
+        assert_eq!(<[u8; CELLS]>::from(cells), bytes);
+        assert_eq!(cells.as_ref(), bytes);
+    }
+    assert_eq!(Cells::new().as_bytes(), &[0; CELLS]);
+    assert_eq!(Cells::default(), Cells::new());
+}
+
+#[test]
+fn three_forms_of_text() {
+    let stones = cells("H8,J10/I9");
+    assert_eq!(stones, cells("H8,I9,J10"));
+    assert_eq!(stones, cells(&stones.to_string()));
+    assert_eq!(Cells::read(b"H8,J10/I9"), Ok(stones));
+    // A point met again is overwritten.
+    assert_eq!(cells("H8,H8").stones(Colour::White)[..], [point("H8")]);
+}
+
+#[test]
+fn diagrams() {
+    for cells in boards(50, 2) {
+        let plain = cells.to_string();
+        assert_eq!(plain.len(), DIAGRAM);
+        assert_eq!(plain.parse(), Ok(cells));
+        let pretty = cells.to_pretty_string();
+        assert_eq!(pretty.len(), PRETTY);
+        assert_eq!(pretty.parse::<Cells>(), Err(Refusal::LineLength));
+        // Row 15 comes first; the numbered rows are the plain ones with a number.
+        for (n, (row, numbered)) in plain.lines().zip(pretty.lines()).enumerate() {
+            assert_eq!(format!("{:2}{row}", 15 - n), numbered);
+        }
+        assert_eq!(format!("{cells:?}"), format!("Cells(\n{plain}\n)"));
+    }
+}
+
+/// Any sequence of put and remove answers as a plain map.
+#[test]
+fn put_and_remove_as_a_map() {
+    let (mut cells, mut map) = (Cells::new(), [None; CELLS]);
+    let mut dice = Dice(3);
+    for _ in 0..2000 {
+        let point = Point::from_code(dice.below(225) as u8).unwrap();
+        let place = &mut map[usize::from(point.code())];
+        *place = Colour::from_number(dice.below(3) as u8).ok();
+        match *place {
+            Some(colour) => cells.put(point, colour),
+            None => cells.remove(point),
+        }
+    }
+    for (point, stone) in Point::all().zip(map) {
+        assert_eq!(cells.stone(point), stone);
+    }
+}
+
+#[test]
+fn stones_and_empty_points() {
+    for cells in boards(50, 4) {
+        for colour in Colour::ALL {
+            let mine = Point::all().filter(|&p| cells.stone(p) == Some(colour));
+            assert!(cells.stones(colour).into_iter().eq(mine));
+        }
+        let empty = Point::all().filter(|&p| cells.stone(p).is_none());
+        assert!(cells.empty_points().into_iter().eq(empty));
+    }
+}
+
+#[test]
+fn neighbors_line_by_line() {
+    let cells = cells("H8,I9");
+    let all = cells.neighbors(point("H8"), 1, false).unwrap();
+    let texts: Vec<String> = all.iter().map(Point::to_string).collect();
+    let lines = [
+        ["H7", "H8", "H9"],
+        ["G8", "H8", "I8"],
+        ["G7", "H8", "I9"],
+        ["G9", "H8", "I7"],
+    ];
+    assert_eq!(texts, lines.concat());
+    for point in Point::all() {
+        for distance in 0..15 {
+            let all = cells.neighbors(point, distance, false).unwrap();
+            assert!(all.len() <= 60);
+            let empty = all.into_iter().filter(|&p| cells.stone(p).is_none());
+            let asked = cells.neighbors(point, distance, true).unwrap();
+            assert!(asked.into_iter().eq(empty));
+        }
+        let far = cells.neighbors(point, 15, false);
+        assert_eq!(far, Err(Refusal::Number));
+    }
+}
+
+/// Section 6's table.
+#[test]
+fn views_of_points() {
+    for (view, number) in View::ALL.into_iter().zip(0..) {
+        assert_eq!(view.number(), number);
+        assert_eq!(View::from_number(number), Ok(view));
+        for point in Point::all() {
+            let (x, y) = (point.x(), point.y());
+            let (a, b) = match number {
+                0 => (x, y),
+                1 => (y, 14 - x),
+                2 => (14 - x, 14 - y),
+                3 => (14 - y, x),
+                4 => (14 - x, y),
+                5 => (x, 14 - y),
+                6 => (y, x),
+                _ => (14 - y, 14 - x),
+            };
+            assert_eq!(Ok(point.turned(view)), Point::new(a, b));
+            assert_eq!(point.turned(view).turned(view.inverse()), point);
+        }
+    }
+}
+
+#[test]
+fn views_of_boards() {
+    for cells in boards(20, 5) {
+        let views = View::ALL.map(|view| cells.turned(view));
+        for (view, turned) in View::ALL.into_iter().zip(views) {
+            for point in Point::all() {
+                assert_eq!(turned.stone(point.turned(view)), cells.stone(point));
+            }
+            assert_eq!(turned.turned(view.inverse()), cells);
+        }
+        assert_eq!(HashSet::from(views).len(), 8);
+    }
+}

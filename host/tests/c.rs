@@ -1,0 +1,114 @@
+//! The header, by a C compiler: a program that calls every function, linked with the same archive,
+//! and the examples of this README and of the root's.
+
+use std::fs;
+use std::path::{Path, PathBuf};
+use std::process::{Command, Output};
+
+const FLAGS: [&str; 4] = ["-Wall", "-Wextra", "-Wpedantic", "-Werror"];
+
+fn package() -> &'static Path {
+    Path::new(env!("CARGO_MANIFEST_DIR"))
+}
+
+fn text(path: &str) -> String {
+    fs::read_to_string(package().join(path)).unwrap_or_else(|error| panic!("{path}: {error}"))
+}
+
+fn said(output: &Output) -> String {
+    let (out, err) = (&output.stdout, &output.stderr);
+    String::from_utf8_lossy(out).into_owned() + &String::from_utf8_lossy(err)
+}
+
+/// Compiles and links a source, and gives the program's path.
+fn compile(compiler: &str, language: [&str; 2], source: &Path, name: &str) -> PathBuf {
+    let program = Path::new(env!("CARGO_TARGET_TMPDIR")).join(name);
+    let mut command = Command::new(compiler);
+    command.arg(language[0]).args(FLAGS);
+    command.arg("-I").arg(package().join("include"));
+    command.args(["-x", language[1]]).arg(source);
+    command.args(["-x", "none", env!("RENJU_ARCHIVE_FILE")]);
+    command.arg("-o").arg(&program);
+    let output = command.output().unwrap_or_else(|error| {
+        panic!("the C header is tested with `{compiler}`, which cannot be run: {error}")
+    });
+    assert!(output.status.success(), "{compiler}: {}", said(&output));
+    program
+}
+
+/// What a program writes.
+fn run(program: &Path) -> String {
+    let output = Command::new(program).output().expect("a program to run");
+    assert!(output.status.success(), "{}", said(&output));
+    String::from_utf8(output.stdout).expect("text")
+}
+
+#[test]
+fn every_function_from_c() {
+    let source = package().join("tests/c/calls.c");
+    let program = compile("cc", ["-std=c99", "c"], &source, "calls");
+    assert_eq!(run(&program), text("tests/c/calls.txt"));
+}
+
+/// Only where there is a C++ compiler: the crate needs none.
+#[test]
+fn every_function_from_cpp() {
+    if Command::new("c++").arg("--version").output().is_err() {
+        println!("not run: no c++");
+        return;
+    }
+    let source = package().join("tests/c/calls.c");
+    let program = compile("c++", ["-std=c++11", "c++"], &source, "calls_cpp");
+    assert_eq!(run(&program), text("tests/c/calls.txt"));
+}
+
+/// The part of the README between the first fence of a language and the next.
+fn fenced<'a>(readme: &'a str, language: &str) -> &'a str {
+    let after = readme.split_once(&format!("```{language}\n"));
+    let after = after.expect("an example in the README").1;
+    after.split_once("```").expect("its end").0
+}
+
+/// What a program in C writes.
+fn run_c(code: &str, name: &str) -> String {
+    let source = Path::new(env!("CARGO_TARGET_TMPDIR")).join(format!("{name}.c"));
+    fs::write(&source, code).expect("the source is written");
+    run(&compile("cc", ["-std=c99", "c"], &source, name))
+}
+
+#[test]
+fn example_of_the_readme() {
+    let readme = text("README.md");
+    let written = run_c(fenced(&readme, "c"), "crosses");
+    assert_eq!(written, fenced(&readme, "text"));
+}
+
+/// The part of the root's README below a heading.
+fn below(heading: &str) -> String {
+    let readme = text("../README.md");
+    let (_, part) = readme.split_once(heading).expect("the heading");
+    part.to_owned()
+}
+
+/// That of this README runs among the documentation's.
+#[test]
+fn rust_example_of_the_root() {
+    let (ours, root) = (text("README.md"), below("\n## Calling it from Rust\n"));
+    for language in ["toml", "rust"] {
+        assert_eq!(fenced(&root, language), fenced(&ours, language));
+    }
+}
+
+#[test]
+fn c_example_of_the_root() {
+    let root = below("\n## Calling it from C\n");
+    let example = fenced(&root, "c");
+    let said = "renju_answer(word) is 1; out[0] is RENJU_DOUBLE_THREE, out[1] is 112,";
+    assert!(example.contains(said), "{example}");
+    let code = format!(
+        "#include \"renju.h\"\n#include <stdio.h>\nint main(void) {{\n{example}\
+         printf(\"%u %u: %d %d\\n\", renju_refusal(word), renju_answer(word),\n\
+         out[0] == RENJU_DOUBLE_THREE, out[1]);\nreturn 0;\n}}\n"
+    );
+    assert_eq!(run_c(&code, "root"), "0 1: 1 112\n");
+}

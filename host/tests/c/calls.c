@@ -1,0 +1,96 @@
+/* Calls every function of the header and writes what each says, a line or a diagram each. It is
+ * compiled as C and as C++; calls.txt has what it must write. */
+#include "renju.h"
+
+#include <stdio.h>
+#include <string.h>
+
+static uint8_t cells[RENJU_CELLS];
+static uint8_t out[RENJU_ROW * RENJU_ROWS];
+
+/* The function's name, its answer or refusal, and `bytes` for each item of the answer. */
+static void say(const char *name, uint32_t word, unsigned bytes) {
+    unsigned i;
+    printf("%s", name);
+    if (renju_refusal(word) != 0) {
+        printf(" refused %u\n", renju_refusal(word));
+        return;
+    }
+    printf(" %u", renju_answer(word));
+    for (i = 0; i < bytes * renju_answer(word); i++) {
+        printf("%c%u", i % bytes == 0 ? ':' : ',', (unsigned)out[i]);
+    }
+    printf("\n");
+}
+
+static uint32_t read_text(const char *text) {
+    return renju_read((const uint8_t *)text, strlen(text), cells, sizeof cells);
+}
+
+static void texts(void) {
+    say("read", read_text("H16,A1"), 0);
+    say("read", read_text("G8,I8,H7,H9/A1"), 0);
+    say("to_string", renju_to_string(cells, sizeof cells, out, RENJU_DIAGRAM), 0);
+    printf("%.*s\n", RENJU_DIAGRAM, (const char *)out);
+    say("to_string", renju_to_string(cells, sizeof cells, out, RENJU_DIAGRAM - 1), 0);
+    say("to_pretty_string", renju_to_pretty_string(cells, sizeof cells, out, RENJU_PRETTY), 0);
+    printf("%.*s\n", RENJU_PRETTY, (const char *)out);
+}
+
+static void points(void) {
+    say("stones", renju_stones(cells, sizeof cells, RENJU_BLACK, out, RENJU_CELLS), 1);
+    say("stones", renju_stones(cells, sizeof cells, RENJU_WHITE, out, RENJU_CELLS), 1);
+    say("stones", renju_stones(cells, sizeof cells, RENJU_EMPTY, out, RENJU_CELLS), 1);
+    say("empty_points", renju_empty_points(cells, sizeof cells, out, RENJU_CELLS), 0);
+    say("neighbors", renju_neighbors(cells, sizeof cells, 112, 1, false, out, RENJU_CELLS), 1);
+    say("neighbors", renju_neighbors(cells, sizeof cells, 112, 1, true, out, RENJU_CELLS), 1);
+    say("neighbors", renju_neighbors(cells, sizeof cells, 112, 15, true, out, RENJU_CELLS), 1);
+    say("turn", renju_turn(cells, sizeof cells, RENJU_QUARTER_RIGHT, out, RENJU_CELLS), 0);
+    printf("A15 is %u\n", (unsigned)out[14]);
+    say("turn_point", renju_turn_point(0, RENJU_QUARTER_RIGHT), 0);
+    say("turn_point", renju_turn_point(225, RENJU_SAME), 0);
+}
+
+static void verdicts(void) {
+    say("forbidden", renju_forbidden(cells, sizeof cells, 112), 0);
+    say("forbidden", renju_forbidden(cells, sizeof cells, 0), 0);
+    say("forbidden_strict", renju_forbidden_strict(cells, sizeof cells, 112), 0);
+    say("forbidden_points", renju_forbidden_points(cells, sizeof cells, out, sizeof out), 2);
+    say("put", renju_put(cells, sizeof cells, 67, RENJU_WHITE), 0);
+    say("put", renju_put(cells, sizeof cells, 157, RENJU_WHITE), 0);
+    say("forbidden_points", renju_forbidden_points(cells, sizeof cells, out, sizeof out), 2);
+    say("remove", renju_remove(cells, sizeof cells, 157), 0);
+    say("forbidden_points", renju_forbidden_points(cells, sizeof cells, out, sizeof out), 2);
+    say("remove", renju_remove(cells, sizeof cells - 1, 157), 0);
+}
+
+static void rows(void) {
+    size_t some = RENJU_ROW * RENJU_ROWS_ON;
+    say("read", read_text("E8,F8,G8,H8/I8,A1"), 0);
+    say("rows", renju_rows(cells, sizeof cells, RENJU_BLACK, RENJU_FOUR, out, sizeof out), 4);
+    say("rows", renju_rows(cells, sizeof cells, RENJU_BLACK, 8, out, sizeof out), 4);
+    say("four_eyes_on",
+        renju_four_eyes_on(cells, sizeof cells, 82, RENJU_BLACK, out, RENJU_CELLS), 1);
+    say("read", read_text("E8,F8,G8/I8,A1"), 0);
+    say("rows", renju_rows(cells, sizeof cells, RENJU_BLACK, RENJU_SWORD, out, sizeof out), 4);
+    say("rows_on", renju_rows_on(cells, sizeof cells, 37, RENJU_BLACK, RENJU_SWORD, out, some), 4);
+    say("rows_on", renju_rows_on(cells, sizeof cells, 37, RENJU_BLACK, RENJU_SWORD, out, 3), 4);
+}
+
+/* C3 of the table of cases: White on 0 to 3 and 5 has two rows and one eye. */
+static void lines(void) {
+    say("line_starts", renju_line_starts(0, 0x2f, 15, RENJU_WHITE, RENJU_FOUR), 0);
+    say("line_starts", renju_line_starts(0, 0x2f, 5, RENJU_WHITE, RENJU_FOUR), 0);
+    say("line_starts_on", renju_line_starts_on(0, 0x2f, 15, RENJU_WHITE, RENJU_FOUR, 5), 0);
+    say("line_starts_on", renju_line_starts_on(0, 0x2f, 15, RENJU_WHITE, RENJU_FOUR, 15), 0);
+    say("line_eyes", renju_line_eyes(0, 0x2f, 15, RENJU_WHITE, RENJU_FOUR), 0);
+}
+
+int main(void) {
+    texts();
+    points();
+    verdicts();
+    rows();
+    lines();
+    return 0;
+}

@@ -1,0 +1,74 @@
+//! No question about a board touches the heap.
+
+use renju::{Cells, Colour, Kind, Point, View};
+use std::alloc::{GlobalAlloc, Layout, System};
+use std::cell::Cell;
+use std::fmt::{self, Write};
+use std::hint::black_box;
+
+/// The system's allocator, counting what each thread asks of it.
+struct Counting;
+
+thread_local! {
+    static ASKED: Cell<usize> = const { Cell::new(0) };
+}
+
+// SAFETY: the system's allocator does all the work.
+unsafe impl GlobalAlloc for Counting {
+    unsafe fn alloc(&self, layout: Layout) -> *mut u8 {
+        ASKED.set(ASKED.get() + 1);
+        unsafe { System.alloc(layout) }
+    }
+
+    unsafe fn dealloc(&self, place: *mut u8, layout: Layout) {
+        unsafe { System.dealloc(place, layout) }
+    }
+}
+
+#[global_allocator]
+static COUNTING: Counting = Counting;
+
+/// Takes what is written to it, and keeps nothing.
+struct Nowhere;
+
+impl Write for Nowhere {
+    fn write_str(&mut self, text: &str) -> fmt::Result {
+        black_box(text);
+        Ok(())
+    }
+}
+
+fn ask_everything(bytes: &[u8], text: &[u8], point: Point) {
+    let mut cells = Cells::read(text).unwrap();
+    cells.put(point, Colour::Black);
+    cells.remove(point);
+    assert_eq!(Ok(cells), Cells::from_bytes(bytes));
+    for colour in Colour::ALL {
+        black_box(cells.stones(colour));
+        black_box(cells.four_eyes_on(point, colour));
+        for kind in Kind::ALL {
+            black_box(cells.rows(colour, kind));
+            black_box(cells.rows_on(point, colour, kind));
+        }
+    }
+    black_box(cells.empty_points());
+    black_box(cells.neighbors(point, 14, true)).unwrap();
+    black_box(cells.forbidden(point)).unwrap();
+    black_box(cells.forbidden_strict(point));
+    for cross in &cells.turned(View::HalfTurn).forbidden_points() {
+        write!(Nowhere, "{cross}").unwrap();
+    }
+    write!(Nowhere, "{cells}").unwrap();
+}
+
+#[test]
+fn nothing_from_the_heap() {
+    let text = b"G8,I8,H7,H9/A1";
+    let (cells, point) = (Cells::read(text).unwrap(), Point::new(7, 7).unwrap());
+    let before = ASKED.get();
+    ask_everything(cells.as_bytes(), text, point);
+    assert_eq!(ASKED.get(), before);
+    // The count is not idle: a text is on the heap.
+    black_box(cells.to_pretty_string());
+    assert!(ASKED.get() > before);
+}
