@@ -6,7 +6,10 @@ use point::undone;
 use rules::Player;
 ghost use mathlib.Core.Path.{_≡_};
 ghost use mathlib.Core.Bool.{cond};
+ghost use lib.Dec.{leb};
+ghost use lib.ListN.{length, getD};
 ghost use Rattle.rules.specs.Numbers.{opponentOf};
+ghost use Rattle.rules.specs.Tools.{allBelow};
 ghost use Rattle.rules.specs.Views.{turnCells};
 ghost use Rattle.grid.specs.Lines.{playLines};
 ghost use Rattle.board.specs.Boards.{puts, codesRefusal, cellsRefusal};
@@ -51,14 +54,21 @@ pub fn cells_refusal(cells: &[u8]) -> u8
     if cells.len() != 225 {
         return 9;
     }
+    if all_small(cells) { 0 } else { 9 }
+}
+
+// Whether 225 cell bytes are all 0, 1 or 2. No byte ends the loop, so that many are compared at once.
+fn all_small(cells: &[u8]) -> bool
+    requires { ⌜ length (now cells) ≡ 225 ⌝ }
+    ensures { λ r. ⌜ r ≡ allBelow 225 (λ p. leb (getD (now (cells .entry)) p 0) 2) ⌝ }
+{
+    let mut small = true;
     let mut i = 0;
-    while i < cells.len() {
-        if 2 < cells[i] {
-            return 9;
-        }
+    while i < 225 {
+        small = small & (cells[i] <= 2);
         i += 1;
     }
-    0
+    small
 }
 
 // The cells of the board in a view: at each point what stood where the view came from.

@@ -18,8 +18,8 @@ use Rattle.rules.specs.declared.Player.the-variants.{Black, White}
 use Rattle.rules.proofs.Logic.{true-T, decide, and-intro}
 use Rattle.rules.proofs.Lists.{getD-tab, is-tab}
 use Rattle.rules.proofs.Bits.{mask-lt, mask-ext}
-use Rattle.rules.proofs.Address.{point-here, cell-here, point-lt, line-there, cell-there, keyDir-lt, keyNo-lt}
-use Rattle.rules.proofs.Rows.{stone-in, stone-out}
+use Rattle.rules.proofs.Address.{point-lt, line-there, cell-there, keyDir-lt, keyNo-lt}
+use Rattle.rules.proofs.Rows.{stone-in, stone-out, stone-here}
 use Rattle.point.specs.Places.{hasPlace}
 use Rattle.grid.specs.Lines.{ownerOf, maskOn, shows, entryOf, linesOf, cellsOf, Sound}
 use Rattle.grid.proofs.Lines.{line-at, on-key, length-linesOf, sound-lines, shows-sound, cell-shown, cell-of}
@@ -44,8 +44,7 @@ module _ (l : List ℕ) (s : Sound l) where
       let th = line-at d p hd t in
       ap (λ (f : Stones). f (cellNo d p))
       (shows-sound r l (keyAt d p) s (th .key) ∙ ap₂ (stoneAt r (cellsOf l)) (th .dir) (th .no))
-      ∙ stone-in r (cellsOf l) d (lineNo d p) (cellNo d p) (cell-here d p hd (th .point))
-      ∙ ap (λ (x : ℕ). eqb (getD (cellsOf l) x 0) (colourNo r)) (point-here d p hd (th .point))
+      ∙ stone-here r (cellsOf l) d p hd (th .point)
 
   entry-of : (e : ℕ) → e < 144 → getD l e 0 ≡ entryOf (cellsOf l) e
   unfolding linesOf

@@ -59,11 +59,14 @@ filled-more n f i hi =
         getD-set-other (filled n f i) i c (f i) 0 e ∙ filled-at n f i c h ∙ rw u
         (sym (filled-at n f (i + 1) c h ∙ rw (le-ltb c (i + 1) (omega (arith, e)))))
 
--- an entry that is 0 may be passed over
+-- what is not filled yet is 0
+pub filled-next : (n : ℕ) (f : ℕ → ℕ) (i : ℕ) → i < n → getD (filled n f i) i 0 ≡ 0
+filled-next n f i h = filled-at n f i i h ∙ rw (le-ltb i i (omega arith))
+
+-- so an entry that is 0 may be passed over
 pub filled-skip : (n : ℕ) (f : ℕ → ℕ) (i : ℕ) → i < n → f i ≡ 0 → filled n f i ≡ filled n f (i + 1)
 filled-skip n f i h z =
-    let none : getD (filled n f i) i 0 ≡ 0 = filled-at n f i i h ∙ rw (le-ltb i i (omega arith)) in
-    sym (set-getD (filled n f i) i 0) ∙ ap (set (filled n f i) i) (none ∙ sym z) ∙ filled-more n f i h
+    sym (set-getD (filled n f i) i 0) ∙ ap (set (filled n f i) i) (filled-next n f i h ∙ sym z) ∙ filled-more n f i h
 
 pub filled-all : (n : ℕ) (f : ℕ → ℕ) → filled n f n ≡ tab n f
 unfolding filled

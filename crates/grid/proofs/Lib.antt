@@ -2,5 +2,7 @@
 pub mod Lines
 pub mod Agreed
 pub mod Filled
+pub mod Marked
 pub mod RowStarts
+pub mod ThroughPoint
 pub mod Placed

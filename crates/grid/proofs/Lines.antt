@@ -10,28 +10,29 @@ use native.Mathlib.Decide.{ℕ-discrete}
 use lib.Dec.{T, eqb, ltb}
 use lib.ListN.{length, getD, set, length-set}
 use lib.Seq.{getD-set-same, getD-set-other, set-out, set-set, set-getD}
-use borrow.Author.Tests.{eq-eqb, ne-eqb, lt-ltb, le-ltb, ltb-true, ltb-false}
+use borrow.Author.Tests.{lt-ltb, le-ltb, ltb-true, ltb-false}
 use Rattle.rules.specs.Numbers.{colourNo}
 use Rattle.rules.specs.Tools.{tab}
 use Rattle.rules.specs.Bit.{bit, maskOf}
 use Rattle.rules.specs.Line.{Stones}
-use Rattle.rules.specs.Point.{xOf, yOf, lineNo, cellNo, lineCount, lineSize, pointAt, stored, storedAt, keyAt, keyDir, keyNo, keySize}
+use Rattle.rules.specs.Point.{xOf, yOf, lineNo, cellNo, lineSize, pointAt, stored, storedAt, keyAt, keyDir, keyNo}
 use Rattle.rules.specs.Grid.{isEmpty, Change, Put, Remove, play, playMap, empties, stoneAt}
 use Rattle.rules.specs.declared.Player.{Player}
 use Rattle.rules.specs.declared.Player.the-variants.{Black, White}
 use Rattle.rules.proofs.Logic.{T-true, true-T, decide, and-intro}
 use Rattle.rules.proofs.Lists.{length-tab, getD-tab, tab-cong, is-tab}
 use Rattle.rules.proofs.Bits.{mask-cong, bits-of, mask-none}
-use Rattle.rules.proofs.Address.{point-here, cell-here, point-lt, line-there, cell-there}
-use Rattle.rules.proofs.Address.{keyDir-lt, keyNo-lt, key-stored, key-back, keySize-le}
-use Rattle.rules.proofs.Rows.{stone-in, stone-out}
-use Rattle.rules.proofs.Changes.{play-map, empties-put}
+use Rattle.rules.proofs.Address.{point-lt, size-le}
+use Rattle.rules.proofs.Address.{keyDir-lt, keyNo-lt, key-stored, key-back}
+use Rattle.rules.proofs.Rows.{stone-out, stone-here}
+use Rattle.rules.proofs.Changes.{stone-off, stone-on, play-map, empties-put}
 use Rattle.masks.specs.Masks.{placed}
 use Rattle.lent.specs.Lists.{zeros}
 use Rattle.lent.proofs.Laws.{length-zeros, zeros-at}
 use Rattle.point.specs.Places.{hasPlace}
 use Rattle.point.proofs.Stored.{has-point, place-key-lt, place-key-dir, place-key-no}
-use Rattle.grid.specs.Lines.{ownerOf, maskOn, shows, entryOf, linesOf, cellOf, cellsOf, Sound, writeLine, writeIn, writeOn, playLines}
+use Rattle.grid.specs.Lines.{entryNo, ownerOf, maskOn, shows, entryOf, linesOf, cellOf, cellsOf, Sound}
+use Rattle.grid.specs.Lines.{writeLine, writeIn, writeOn, playLines}
 
 -- ---- the line through a point, where it is stored
 
@@ -54,66 +55,16 @@ on-key k p hk hp e = (
   rw e (key-back k hk),
 )
 
--- ---- a stone on a line of the board after one cell was set
-
-module _ (r : Player) (cells : List ℕ) (d i p v : ℕ) (hd : d < 4) (hi : i < lineCount d) where
-  -- a line that does not go through the point stays
-  pub stone-off : (lineNo d p ≡ i → ⊥) → (j : ℕ) → stoneAt r (set cells p v) d i j ≡ stoneAt r cells d i j
-  stone-off off j = go (decide (ltb j (lineSize d i)))
-    where
-      go : (ltb j (lineSize d i) ≡ true) ⊎ (ltb j (lineSize d i) ≡ false) → stoneAt r (set cells p v) d i j ≡ stoneAt r cells d i j
-      go (inl t) =
-          let h = ltb-true j (lineSize d i) t in
-          stone-in r (set cells p v) d i j h
-          ∙ ap (λ (x : ℕ). eqb x (colourNo r))
-          (getD-set-other cells p (pointAt d i j) v 0 (λ q. off (ap (lineNo d) (sym q) ∙ line-there d i j hd hi h)))
-          ∙ sym (stone-in r cells d i j h)
-      go (inr t) =
-          let h = ltb-false j (lineSize d i) t in
-          stone-out r (set cells p v) d i j h ∙ sym (stone-out r cells d i j h)
-
-  -- one that does has the value's stone, or none, at the point's cell
-  pub stone-on : length cells ≡ 225 → p < 225 → lineNo d p ≡ i → (j : ℕ)
-      → placed (stoneAt r cells d i) (cellNo d p) (eqb v (colourNo r)) j ≡ stoneAt r (set cells p v) d i j
-  stone-on long hp on j = go (ℕ-discrete j (cellNo d p)) (decide (ltb j (lineSize d i)))
-    where
-      here : pointAt d i (cellNo d p) ≡ p
-      here = ap (λ (x : ℕ). pointAt d x (cellNo d p)) (sym on) ∙ point-here d p hd hp
-
-      inside : cellNo d p < lineSize d i
-      inside = subst (λ (x : ℕ). cellNo d p < lineSize d x) on (cell-here d p hd hp)
-
-      go : Dec (j ≡ cellNo d p) → (ltb j (lineSize d i) ≡ true) ⊎ (ltb j (lineSize d i) ≡ false)
-          → placed (stoneAt r cells d i) (cellNo d p) (eqb v (colourNo r)) j ≡ stoneAt r (set cells p v) d i j
-      go (yes e) t =
-          rw (eq-eqb j (cellNo d p) e)
-          (sym (ap (stoneAt r (set cells p v) d i) e ∙ stone-in r (set cells p v) d i (cellNo d p) inside
-          ∙ ap (λ (x : ℕ). eqb x (colourNo r)) (ap (λ (x : ℕ). getD (set cells p v) x 0) here ∙ getD-set-same cells p v 0 (omega arith))))
-      go (no e) (inl t) =
-          let h = ltb-true j (lineSize d i) t in
-          rw (ne-eqb j (cellNo d p) e)
-          (stone-in r cells d i j h
-          ∙ ap (λ (x : ℕ). eqb x (colourNo r))
-          (sym (getD-set-other cells p (pointAt d i j) v 0 (λ q. e (sym (cell-there d i j hd hi h) ∙ ap (cellNo d) q))))
-          ∙ sym (stone-in r (set cells p v) d i j h))
-      go (no e) (inr t) =
-          let h = ltb-false j (lineSize d i) t in
-          rw (ne-eqb j (cellNo d p) e) (stone-out r cells d i j h ∙ sym (stone-out r (set cells p v) d i j h))
-
 -- ---- an entry of the lines of cells
 
 -- the bits of a line's mask are its stones
-stone-bits : (r : Player) (cells : List ℕ) (k : ℕ) → k < 72
-    → bit (maskOf 16 (stoneAt r cells (keyDir k) (keyNo k))) ≡ stoneAt r cells (keyDir k) (keyNo k)
-unfolding keySize
-stone-bits r cells k hk =
-    bits-of 16 (stoneAt r cells (keyDir k) (keyNo k))
-    (λ j h. stone-out r cells (keyDir k) (keyNo k) j
-    (let s : lineSize (keyDir k) (keyNo k) ≤ 15 = keySize-le k in omega arith))
+pub stone-bits : (r : Player) (cells : List ℕ) (d i : ℕ) → bit (maskOf 16 (stoneAt r cells d i)) ≡ stoneAt r cells d i
+stone-bits r cells d i =
+    bits-of 16 (stoneAt r cells d i) (λ j h. stone-out r cells d i j (let s = size-le d i in omega arith))
 
 entry-bits : (cells : List ℕ) (e : ℕ) → bit (entryOf cells e) ≡ stoneAt (ownerOf e) cells (keyDir (e % 72)) (keyNo (e % 72))
 unfolding entryOf
-entry-bits cells e = stone-bits (ownerOf e) cells (e % 72) (omega arith)
+entry-bits cells e = stone-bits (ownerOf e) cells (keyDir (e % 72)) (keyNo (e % 72))
 
 entry-miss : (cells : List ℕ) (p v e : ℕ) → (lineNo (keyDir (e % 72)) p ≡ keyNo (e % 72) → ⊥) → entryOf (set cells p v) e ≡ entryOf cells e
 unfolding entryOf
@@ -280,14 +231,15 @@ no-stone r cells d i j e = rw e (off r (ltb j (lineSize d i)))
     off White true = refl
     off White false = refl
 
--- a stone of a line is told by the cell there
-stone-cong : (r : Player) (a b : List ℕ) (d i j : ℕ) → (j < lineSize d i → getD a (pointAt d i j) 0 ≡ getD b (pointAt d i j) 0)
+-- a stone of a line is told by whether the cell there has its colour's number
+stone-cong : (r : Player) (a b : List ℕ) (d i j : ℕ)
+    → (j < lineSize d i → eqb (getD a (pointAt d i j) 0) (colourNo r) ≡ eqb (getD b (pointAt d i j) 0) (colourNo r))
     → stoneAt r a d i j ≡ stoneAt r b d i j
 unfolding stoneAt
 stone-cong r a b d i j h = go (decide (ltb j (lineSize d i)))
   where
     go : (ltb j (lineSize d i) ≡ true) ⊎ (ltb j (lineSize d i) ≡ false) → stoneAt r a d i j ≡ stoneAt r b d i j
-    go (inl t) = rw t (ap (λ (x : ℕ). eqb x (colourNo r)) (h (ltb-true j (lineSize d i) t)))
+    go (inl t) = rw t (h (ltb-true j (lineSize d i) t))
     go (inr t) = rw t
 
 -- ---- reading the lines of some cells
@@ -296,7 +248,12 @@ pub length-linesOf : (cells : List ℕ) → length (linesOf cells) ≡ 144
 unfolding linesOf
 length-linesOf cells = length-tab 144 (entryOf cells)
 
--- a player's mask of the line of a key is that of the player's stones on that line, and shows them
+-- a player's mask of the line of a key is its entry
+pub mask-entry : (r : Player) (l : List ℕ) (k : ℕ) → k < 72 → maskOn r l k ≡ getD l (entryNo r k) 0
+unfolding maskOn
+mask-entry r l k hk = rw (lt-ltb k 72 hk)
+
+-- and on the lines of some cells that of the player's stones on that line, and shows them
 pub mask-linesOf : (r : Player) (cells : List ℕ) (k : ℕ) → k < 72
     → maskOn r (linesOf cells) k ≡ maskOf 16 (stoneAt r cells (keyDir k) (keyNo k))
 unfolding linesOf maskOn entryOf
@@ -308,16 +265,20 @@ mask-linesOf White cells k hk =
     rw (lt-ltb k 72 hk, getD-tab 144 (entryOf cells) (72 + k) (omega arith), le-ltb (72 + k) 72 (omega arith), m)
 
 pub shows-linesOf : (r : Player) (cells : List ℕ) (k : ℕ) → k < 72 → shows r (linesOf cells) k ≡ stoneAt r cells (keyDir k) (keyNo k)
-shows-linesOf r cells k hk = ap bit (mask-linesOf r cells k hk) ∙ stone-bits r cells k hk
+shows-linesOf r cells k hk = ap bit (mask-linesOf r cells k hk) ∙ stone-bits r cells (keyDir k) (keyNo k)
 
--- the lines look at the cells of the 225 points alone
-pub lines-cong : (a b : List ℕ) → ((p : ℕ) → p < 225 → getD a p 0 ≡ getD b p 0) → linesOf a ≡ linesOf b
+-- the lines look at the stones of the 225 points alone
+pub lines-same : (a b : List ℕ) → ((r : Player) (p : ℕ) → p < 225 → eqb (getD a p 0) (colourNo r) ≡ eqb (getD b p 0) (colourNo r))
+    → linesOf a ≡ linesOf b
 unfolding linesOf entryOf
-lines-cong a b h =
+lines-same a b h =
     tab-cong 144 (entryOf a) (entryOf b)
     (λ e he. mask-cong 16 _ _ (λ j l. stone-cong (ownerOf e) a b (keyDir (e % 72)) (keyNo (e % 72)) j
-    (λ q. h (pointAt (keyDir (e % 72)) (keyNo (e % 72)) j)
+    (λ q. h (ownerOf e) (pointAt (keyDir (e % 72)) (keyNo (e % 72)) j)
     (point-lt (keyDir (e % 72)) (keyNo (e % 72)) j (keyDir-lt (e % 72) (omega arith)) (keyNo-lt (e % 72) (omega arith)) q))))
+
+pub lines-cong : (a b : List ℕ) → ((p : ℕ) → p < 225 → getD a p 0 ≡ getD b p 0) → linesOf a ≡ linesOf b
+lines-cong a b h = lines-same a b (λ r p hp. ap (λ (x : ℕ). eqb x (colourNo r)) (h p hp))
 
 -- ---- the cells are read back
 
@@ -341,9 +302,7 @@ column-linesOf : (r : Player) (cells : List ℕ) (p : ℕ) → p < 225
     → shows r (linesOf cells) (xOf p) (yOf p) ≡ eqb (getD cells p 0) (colourNo r)
 unfolding lineNo cellNo
 column-linesOf r cells p hp =
-    ap (λ (f : Stones). f (yOf p)) (column-shows r cells (xOf p) (omega arith))
-    ∙ stone-in r cells 0 (xOf p) (yOf p) (cell-here 0 p (omega arith) hp)
-    ∙ ap (λ (x : ℕ). eqb (getD cells x 0) (colourNo r)) (point-here 0 p (omega arith) hp)
+    ap (λ (f : Stones). f (yOf p)) (column-shows r cells (xOf p) (omega arith)) ∙ stone-here r cells 0 p (omega arith) hp
 
 -- a cell of any lines, by what the vertical line shows
 pub cell-shown : (l : List ℕ) (p : ℕ) → p < 225

@@ -1,39 +1,49 @@
 -- The starts of rows through a point, read off sound lines, are those of the rules. Assumes nothing.
 use mathlib.Core.Path.{_≡_, ap, ap₂, sym, subst, _∙_}
-use mathlib.Core.Bool.{Bool, true, false, _&&_}
+use mathlib.Core.Bool.{Bool, true, false, _&&_, and-false}
 use mathlib.Core.Logic.{_⊎_, inl, inr}
 use mathlib.Core.List.{List}
 use Prim.Native.Nat.{ℕ, _≤_, _<_}
 use native.Mathlib.Omega.{arith}
-use lib.Dec.{T, ltb, leb, le→leb}
+use lib.Dec.{T, ltb, le→leb}
 use lib.ListN.{getD}
 use borrow.Author.Tests.{lt-ltb}
 use Rattle.rules.specs.Numbers.{isBlack, opponentOf}
 use Rattle.rules.specs.Bit.{bit, maskOf}
 use Rattle.rules.specs.Line.{Stones, rowAt, through}
 use Rattle.rules.specs.Point.{lineNo, cellNo, lineSize, stored, storedAt, keyAt, keySize}
-use Rattle.rules.specs.Grid.{rowOn, rowsThrough}
+use Rattle.rules.specs.Grid.{stoneAt, rowOn, rowsThrough}
 use Rattle.rules.specs.declared.Player.{Player}
 use Rattle.rules.specs.declared.RowKind.{RowKind}
 use Rattle.rules.proofs.Logic.{true-T, decide, not-intro, not-false, and-intro, and-flip}
 use Rattle.rules.proofs.Lists.{getD-tab}
 use Rattle.rules.proofs.Bits.{mask-cong, bits-of, mask-none}
 use Rattle.rules.proofs.Address.{line-here, stored-long}
-use Rattle.rules.proofs.Rows.{through-inside, start-lt}
+use Rattle.rules.proofs.Windows.{row-inside}
+use Rattle.rules.proofs.Rows.{start-lt}
 use Rattle.point.specs.Places.{hasPlace}
 use Rattle.grid.specs.Lines.{shows, cellsOf, Sound, startsIn, startsOn}
 use Rattle.grid.proofs.Lines.{Through, line-at, shows-sound}
 
--- where the line is not stored there is no row: it has no window
-pub none-short : (r : Player) (k : RowKind) (cells : List ℕ) (p d : ℕ) → d < 4 → p < 225 → hasPlace d p ≡ false → (j : ℕ)
-    → rowsThrough r k cells p d j ≡ false
+-- where a line is not stored no row stands on it, whatever its stones: it has no window
+pub short-none : (black : Bool) (own other : Stones) (kind : RowKind) (p d j : ℕ) → d < 4 → p < 225 → hasPlace d p ≡ false
+    → rowAt black (lineSize d (lineNo d p)) own other kind j ≡ false
 unfolding hasPlace storedAt
-none-short r k cells p d hd hp e j =
-    not-false (not-intro (rowsThrough r k cells p d j) (λ t.
-    let long : 5 ≤ lineSize d (lineNo d p) = let h = through-inside r k cells p d j t in omega arith in
+short-none black own other kind p d j hd hp e =
+    not-false (not-intro (rowAt black (lineSize d (lineNo d p)) own other kind j) (λ t.
+    let long : 5 ≤ lineSize d (lineNo d p) =
+    let h = row-inside black (lineSize d (lineNo d p)) own other kind j t in omega arith in
     let s : T (stored d (lineNo d p)) =
     subst T (sym (stored-long d (lineNo d p) hd (line-here d p hd hp))) (le→leb 5 (lineSize d (lineNo d p)) long) in
     subst T e (and-intro (ltb p 225) (stored d (lineNo d p)) (true-T (lt-ltb p 225 hp)) s)))
+
+pub none-short : (r : Player) (k : RowKind) (cells : List ℕ) (p d : ℕ) → d < 4 → p < 225 → hasPlace d p ≡ false → (j : ℕ)
+    → rowsThrough r k cells p d j ≡ false
+unfolding rowsThrough rowOn
+none-short r k cells p d hd hp e j =
+    ap (λ (b : Bool). through k (cellNo d p) j && b)
+    (short-none (isBlack r) (stoneAt r cells d (lineNo d p)) (stoneAt (opponentOf r) cells d (lineNo d p)) k p d j hd hp e)
+    ∙ and-false (through k (cellNo d p) j)
 
 -- the rows of a line through a point, by what its masks show
 pub shown-rows : (r : Player) (k : RowKind) (l : List ℕ) (p d j : ℕ) → Sound l → Through d p

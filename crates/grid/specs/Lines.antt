@@ -37,6 +37,13 @@ maskOn r l k = cond (ltb k 72) (getD l (entryNo r k) 0) 0
 abbrev pub shows : Player → List ℕ → ℕ → Stones
 shows r l k = bit (maskOn r l k)
 
+-- the masks of the player's stones on the lines through p: on the one in direction d, 0 where it is not stored; on all four
+abbrev pub maskThrough : List ℕ → ℕ → Player → ℕ → ℕ
+maskThrough l p r d = cond (hasPlace d p) (maskOn r l (keyAt d p)) 0
+
+unfoldable pub masksThrough : List ℕ → ℕ → Player → List ℕ
+masksThrough l p r = tab 4 (maskThrough l p r)
+
 -- ---- the lines of cells, and the cells of lines
 
 -- entry e of the lines of a board with these cells: bit j is on where cell j of its line holds a stone of its owner's
@@ -83,7 +90,28 @@ writeIn l d p v = cond (hasPlace d p) (writeLine l (keyAt d p) (cellNo d p) v) l
 unfoldable pub writeOn : List ℕ → ℕ → ℕ → List ℕ
 writeOn l p v = writeIn (writeIn (writeIn (writeIn l 0 p v) 1 p v) 2 p v) 3 p v
 
--- a sequence of puts and removes, one after the other
+-- ---- a stone of the player's set on the lines, or taken off: its bit in the masks of that colour alone. At a point where no stone of the
+-- other colour stands that is the write of its value, or of 0 (proofs/Marked.antt).
+
+-- at cell j of the line of key k
+unfoldable pub markLine : List ℕ → ℕ → ℕ → Player → Bool → List ℕ
+markLine l k j r on = set l (entryNo r k) (maskOf 16 (placed (bit (getD l (entryNo r k) 0)) j on))
+
+-- on the line through p in direction d, if it is stored
+unfoldable pub markIn : List ℕ → ℕ → ℕ → Player → Bool → List ℕ
+markIn l d p r on = cond (hasPlace d p) (markLine l (keyAt d p) (cellNo d p) r on) l
+
+-- on all four
+unfoldable pub markOn : List ℕ → ℕ → Player → Bool → List ℕ
+markOn l p r on = markIn (markIn (markIn (markIn l 0 p r on) 1 p r on) 2 p r on) 3 p r on
+
+abbrev pub addOn : List ℕ → ℕ → Player → List ℕ
+addOn l p r = markOn l p r true
+
+abbrev pub liftOn : List ℕ → ℕ → Player → List ℕ
+liftOn l p r = markOn l p r false
+
+-- ---- a sequence of puts and removes, one after the other
 unfoldable pub playLines : List Change → List ℕ → List ℕ
 playLines [] l = l
 playLines (Put r p ∷ changes) l = playLines changes (writeOn l p (colourNo r))

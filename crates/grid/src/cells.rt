@@ -1,6 +1,8 @@
 // The 225 cells that the stored lines show, the lines of 225 cells, and whether lines are sound: those of their own cells.
-use super::store::write_on;
+use super::store::add_on;
 use masks::cell_value;
+use rules::Player;
+use rules::is_colour;
 ghost use mathlib.Core.Path.{_≡_};
 ghost use lib.ListN.{getD};
 ghost use Rattle.grid.specs.Lines.{cellOf, cellsOf, linesOf, sameList, isSound};
@@ -26,8 +28,8 @@ pub fn cells_of(lines: &[u16; 144]) -> [u8; 225]
     cells
 }
 
-// The lines of a board with these cells, a cell past the slice's end for empty. A put of an empty cell would change nothing, so it is
-// passed over.
+// The lines of a board with these cells, a cell past the slice's end for empty. The stones alone are walked, and each is added where none
+// stands yet, so its own colour's masks are all that change.
 pub fn lines_of(cells: &[u8]) -> [u16; 144]
     ensures { λ r. ⌜ r ≡ linesOf (now (cells .entry)) ⌝ }
 {
@@ -35,8 +37,8 @@ pub fn lines_of(cells: &[u8]) -> [u16; 144]
     let mut i = 0u8;
     while i < 225 {
         let value = value_at(cells, i as usize);
-        if value != 0 {
-            write_on(&mut lines, i, value);
+        if is_colour(value) {
+            add_on(&mut lines, Player::of(value), i);
         }
         i += 1;
     }

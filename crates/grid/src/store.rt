@@ -5,7 +5,7 @@ use rules::Player;
 ghost use mathlib.Core.Path.{_≡_};
 ghost use Prim.Native.Nat.{_<_};
 ghost use Rattle.rules.specs.Numbers.{colourNo};
-ghost use Rattle.grid.specs.Lines.{maskOn, writeLine, writeIn, writeOn};
+ghost use Rattle.grid.specs.Lines.{entryNo, maskOn, writeLine, writeIn, writeOn, markIn, addOn, liftOn};
 
 // A stone at a point, in place of what stood there. Nothing changes at a code over 224.
 pub fn put_on(lines: &mut [u16; 144], player: Player, code: u8)
@@ -22,7 +22,7 @@ pub fn remove_on(lines: &mut [u16; 144], code: u8)
 }
 
 // A cell's value, as in cell bytes, on the four lines through a point.
-pub(crate) fn write_on(lines: &mut [u16; 144], code: u8, value: u8)
+fn write_on(lines: &mut [u16; 144], code: u8, value: u8)
     ensures { λ _. ⌜ now (lines .exit) ≡ writeOn (now (lines .entry)) code value ⌝ }
 {
     write_in(lines, 0, code, value);
@@ -54,6 +54,38 @@ fn write_line(lines: &mut [u16; 144], key: u8, cell: u8, value: u8)
     lines[72 + k] = whites;
 }
 
+// A stone at a point where none stands: its colour's bit on each stored line through it, which is half of what a put writes.
+pub fn add_on(lines: &mut [u16; 144], player: Player, code: u8)
+    ensures { λ _. ⌜ now (lines .exit) ≡ addOn (now (lines .entry)) code player ⌝ }
+{
+    mark_in(lines, 0, code, player, true);
+    mark_in(lines, 1, code, player, true);
+    mark_in(lines, 2, code, player, true);
+    mark_in(lines, 3, code, player, true);
+}
+
+// The player's stone taken off again.
+pub fn lift_on(lines: &mut [u16; 144], player: Player, code: u8)
+    ensures { λ _. ⌜ now (lines .exit) ≡ liftOn (now (lines .entry)) code player ⌝ }
+{
+    mark_in(lines, 0, code, player, false);
+    mark_in(lines, 1, code, player, false);
+    mark_in(lines, 2, code, player, false);
+    mark_in(lines, 3, code, player, false);
+}
+
+// .. on the line in one direction, if that is stored.
+fn mark_in(lines: &mut [u16; 144], d: u8, code: u8, player: Player, on: bool)
+    requires { ⌜ d < 4 ⌝ }
+    ensures { λ _. ⌜ now (lines .exit) ≡ markIn (now (lines .entry)) d code player on ⌝ }
+{
+    let a = address(d, code);
+    if a.stored {
+        let k = entry_no(player, a.key);
+        lines[k] = set_bit(lines[k], a.cell, on);
+    }
+}
+
 // The player's stones on the line of a key; none for a key over 71.
 pub fn mask_on(lines: &[u16; 144], player: Player, key: u8) -> u16
     ensures { λ r. ⌜ r ≡ maskOn player (now (lines .entry)) key ⌝ }
@@ -65,5 +97,15 @@ pub fn mask_on(lines: &[u16; 144], player: Player, key: u8) -> u16
     match player {
         Player::Black => lines[k],
         Player::White => lines[72 + k],
+    }
+}
+
+// Where the player's mask of the line of a key stands.
+pub(crate) fn entry_no(player: Player, key: u8) -> usize
+    ensures { λ r. ⌜ r ≡ entryNo player key ⌝ }
+{
+    match player {
+        Player::Black => key as usize,
+        Player::White => 72 + key as usize,
     }
 }

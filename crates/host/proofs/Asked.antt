@@ -1,5 +1,6 @@
 -- A question asked of cell bytes is asked of their board: it is refused alike, and the board has these cells. Assumes nothing.
-use mathlib.Core.Path.{_≡_, ap, sym, _∙_}
+use mathlib.Core.Path.{_≡_, refl, ap, sym, _∙_}
+use mathlib.Core.Bool.{true, false}
 use mathlib.Core.Logic.{_⊎_, inl, inr}
 use mathlib.Core.List.{List}
 use Prim.Native.Nat.{ℕ, _/_, _<_}
@@ -10,16 +11,16 @@ use borrow.Author.Tests.{ne-eqb, eq-eqb, eqb-true}
 use Rattle.rules.specs.Numbers.{colourNo, playerOf, isColour}
 use Rattle.rules.specs.Refusals.{first, colourRefusal}
 use Rattle.rules.specs.Views.{turnCells}
-use Rattle.rules.proofs.Logic.{T-true, or-cases}
+use Rattle.rules.proofs.Logic.{T-true, decide, or-cases}
 use Rattle.rules.proofs.Refusals.{first-none, passed}
 use Rattle.point.specs.Points.{codeRefusal, viewRefusal}
 use Rattle.point.proofs.Refused.{code-in}
 use Rattle.grid.proofs.Lines.{cells-cellsOf, length-cellsOf}
 use Rattle.board.specs.Answers.{boardAnswer}
-use Rattle.board.specs.Boards.{cells, boardRefusal, cellsRefusal}
+use Rattle.board.specs.Boards.{cells, boardRefusal, cellsRefusal, refusalAt, boardOf}
 use Rattle.board.specs.declared.board.Board.{Board}
 use Rattle.board.specs.declared.answer.BoardAnswer.{BoardAnswer}
-use Rattle.board.proofs.Given.{cells-in, turn-ok, made-refusal, made-board, made-sound, made-cells}
+use Rattle.board.proofs.Given.{cells-in, board-sound, turn-ok, made-refusal, made-board, made-sound, made-cells}
 use Rattle.host.specs.Answers.{refusalOf, changeRefusal}
 
 -- a refusal that is given stays the first one
@@ -45,6 +46,16 @@ colour-cell colour e = go (or-cases (eqb colour 1) (eqb colour 2) (passed (isCol
     go : T (eqb colour 1) ⊎ T (eqb colour 2) → colour ≡ colourNo (playerOf colour)
     go (inl t) = rw (eqb-true colour 1 (T-true t))
     go (inr t) = rw (eqb-true colour 2 (T-true t))
+
+-- a point of the cells is refused as on their board
+pub at-board : (c : List ℕ) (p : ℕ) → first (cellsRefusal c) (codeRefusal p) ≡ refusalOf c (λ b. refusalAt b p)
+unfolding refusalOf refusalAt first
+at-board c p = go (decide (eqb (cellsRefusal c) 0))
+  where
+    go : (eqb (cellsRefusal c) 0 ≡ true) ⊎ (eqb (cellsRefusal c) 0 ≡ false)
+        → first (cellsRefusal c) (codeRefusal p) ≡ first (cellsRefusal c) (first (boardRefusal (boardOf c)) (codeRefusal p))
+    go (inl z) = ap (first (cellsRefusal c)) (rw (board-sound c (cells-in c (eqb-true (cellsRefusal c) 0 z))) refl)
+    go (inr z) = rw z refl
 
 module _ (c : List ℕ) (m : BoardAnswer) (e : m ≡ boardAnswer (cellsRefusal c) c) where
   told : cellsRefusal c ≡ m .refused

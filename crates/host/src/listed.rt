@@ -8,7 +8,7 @@ use lists::neighbors;
 use lists::rows;
 use lists::rows_on;
 use lists::stones;
-use referee::forbidden_points;
+use referee::forbidden_points_of;
 ghost use mathlib.Core.Path.{_≡_};
 ghost use Rattle.rules.specs.Numbers.{playerOf, kindOf};
 ghost use Rattle.rules.specs.Grid.{stonesOf, emptyPoints, neighbours, rowsOf, rowsOnPoint, fourEyes};
@@ -118,9 +118,5 @@ pub extern "C" fn renju_forbidden_points(cells: &[u8], out: &mut [u8]) -> u32
     ensures { λ r. ⌜ (r ≡ listWord 2 (cellsRefusal (now (cells .entry))) (now (out .entry)) (forbiddenList (now (cells .entry))))
         × (now (out .exit) ≡ listOut (cellsRefusal (now (cells .entry))) (now (out .entry)) (forbiddenList (now (cells .entry)))) ⌝ }
 {
-    let made = Board::from_cells(cells);
-    if made.refused != 0 {
-        return word(made.refused, 0);
-    }
-    count_word(forbidden_points(made.board, out))
+    count_word(forbidden_points_of(cells, out))
 }

@@ -3,7 +3,7 @@ use super::answer::verdict_word;
 use super::answer::word;
 use board::Board;
 use referee::forbidden;
-use referee::forbidden_strict;
+use referee::forbidden_strict_of;
 ghost use mathlib.Core.Path.{_≡_};
 ghost use Rattle.rules.specs.Numbers.{verdictNo};
 ghost use Rattle.rules.specs.Forbidden.{plainOf, strictOf};
@@ -30,9 +30,5 @@ pub extern "C" fn renju_forbidden_strict(cells: &[u8], code: u8) -> u32
     ensures { λ r. ⌜ r ≡ word (refusalOf (now (cells .entry)) (λ b. refusalAt b code))
         (verdictNo (strictOf (now (cells .entry)) code)) ⌝ }
 {
-    let made = Board::from_cells(cells);
-    if made.refused != 0 {
-        return word(made.refused, 0);
-    }
-    verdict_word(forbidden_strict(made.board, code))
+    verdict_word(forbidden_strict_of(cells, code))
 }

@@ -2,25 +2,23 @@
 use mathlib.Core.Path.{_≡_, refl, sym, ap, subst, _∙_}
 use mathlib.Core.Bool.{Bool, true, false, not, _&&_}
 use Prim.Native.Nat.{ℕ, zero, suc, _+_, _-_, _*_, _/_, _%_, _^_, _≤_, _<_}
-use native.Mathlib.Nat.{not-suc-le-zero, le-of-suc-le-suc, lt-of-not-le, lt-of-lt-of-le}
+use native.Mathlib.Nat.{not-suc-le-zero, le-of-suc-le-suc, lt-of-not-le, lt-of-lt-of-le, mod-lt}
 use native.Mathlib.Omega.{arith}
 use lib.Dec.{T, eqb, leb, ltb, le→leb, ltb→lt, lt→ltb}
-use lib.Bits.{bitAnd}
+use lib.Bits.{bitAnd, and-lt}
 use lib.Count.{trailingZeros, under}
-use lib.Pow.{pow-pos}
+use lib.Pow.{pow-pos, ones-sub-lt}
 use Rattle.rules.specs.Tools.{anyBelow}
 use Rattle.rules.specs.Bit.{bit, digit, maskOf}
-use Rattle.rules.specs.Forbidden.{apart}
-use Rattle.rules.proofs.Logic.{T-true, true-T, no-true, not-false, not-intro, not-elim, both-ways, and-left, and-right, and-intro}
+use Rattle.rules.proofs.Logic.{T-true, no-true, not-intro, not-elim, both-ways, and-left, and-right, and-intro}
 use Rattle.rules.proofs.Logic.{any-elim, any-intro}
 use Rattle.rules.proofs.Bits.{bit-suc, bit-none, bit-ext, low-bit, bit-and, bit-not, bit-shl-in, bit-ones, mask-ext, mask-any}
-use Rattle.rules.proofs.More.{apart-elim, apart-intro}
-use Rattle.masks.proofs.Windows.{below}
+use Rattle.rules.proofs.More.{apartIn, apartIn-elim, apartIn-intro}
 
 -- ---- the lowest set bit
 
 -- nothing is set below it
-low-below : (w n j : ℕ) → j < trailingZeros w n → bit n j ≡ false
+pub low-below : (w n j : ℕ) → j < trailingZeros w n → bit n j ≡ false
 unfolding trailingZeros
 low-below zero n j h = absurd (omega arith)
 low-below (suc w) n zero h = go (bit n 0) refl (subst (λ (d : ℕ). 0 < under d (trailingZeros w (n / 2))) (low-bit n) h)
@@ -38,7 +36,7 @@ low-below (suc w) n (suc j) h =
     go ih false g = ih (le-of-suc-le-suc g)
 
 -- it is set
-low-set : (w n : ℕ) → trailingZeros w n < w → bit n (trailingZeros w n) ≡ true
+pub low-set : (w n : ℕ) → trailingZeros w n < w → bit n (trailingZeros w n) ≡ true
 unfolding trailingZeros
 low-set zero n h = absurd (omega arith)
 low-set (suc w) n h =
@@ -58,56 +56,49 @@ low-lt w n h g =
     lt-of-not-le (λ k. g (bit-ext w n 0 h (pow-pos w) (λ j l. low-below w n j (lt-of-lt-of-le l k) ∙ sym (bit-none j))))
 
 -- no set bit lies below it
-low-le : (s j : ℕ) → T (bit s j) → trailingZeros 16 s ≤ j
-low-le s j e = le-of-suc-le-suc (lt-of-not-le (λ h. no-true (sym (low-below 16 s j h) ∙ T-true e)))
+pub low-le : (w n j : ℕ) → T (bit n j) → trailingZeros w n ≤ j
+low-le w n j e = le-of-suc-le-suc (lt-of-not-le (λ h. no-true (sym (low-below w n j h) ∙ T-true e)))
 
 -- ---- two starts two or more apart: one is left past the lowest and the next
 
 left : ℕ → ℕ → ℕ → Bool
 left s t j = bit s j && not (leb t j && ltb (j - t) 2)
 
-left-over : (s t : ℕ) → s < 2 ^ 16 → bitAnd s (65535 - (3 * 2 ^ t) % 65536) ≡ maskOf 16 (left s t)
+left-over : (w s t : ℕ) → s < 2 ^ w → bitAnd s ((2 ^ w - 1) - (3 * 2 ^ t) % 2 ^ w) ≡ maskOf w (left s t)
 unfolding left
-left-over s t h =
-    mask-ext 16 _ _ (search below)
-    (λ j l. bit-and _ _ j ∙ ap (λ (b : Bool). bit s j && b)
-    (bit-not _ 16 j (search below) l ∙ ap not (bit-shl-in 3 t 16 j l ∙ ap (λ (b : Bool). leb t j && b) (bit-ones 2 (j - t)))))
+left-over w s t h =
+    mask-ext w (bitAnd s ((2 ^ w - 1) - (3 * 2 ^ t) % 2 ^ w)) (left s t)
+    (and-lt w s ((2 ^ w - 1) - (3 * 2 ^ t) % 2 ^ w) h (ones-sub-lt w ((3 * 2 ^ t) % 2 ^ w)))
+    (λ j l. bit-and s ((2 ^ w - 1) - (3 * 2 ^ t) % 2 ^ w) j ∙ ap (λ (b : Bool). bit s j && b)
+    (bit-not ((3 * 2 ^ t) % 2 ^ w) w j (mod-lt (3 * 2 ^ t) (pow-pos w)) l
+    ∙ ap not (bit-shl-in 3 t w j l ∙ ap (λ (b : Bool). leb t j && b) (bit-ones 2 (j - t)))))
 
-pub apart-some : (s : ℕ) → s < 2 ^ 16 → (s ≡ 0 → ⊥)
-    → not (eqb (bitAnd s (65535 - (3 * 2 ^ trailingZeros 16 s) % 65536)) 0) ≡ apart (bit s)
+-- t is any place that no start lies below, and itself a start where one lies two or more past it
+pub apart-past : (w s t : ℕ) → s < 2 ^ w → ((j : ℕ) → T (bit s j) → t ≤ j) → ((j : ℕ) → j < w → t + 2 ≤ j → T (bit s j) → T (bit s t))
+    → not (eqb (bitAnd s ((2 ^ w - 1) - (3 * 2 ^ t) % 2 ^ w)) 0) ≡ apartIn w (bit s)
 unfolding left
-apart-some s h g =
-    ap (λ (x : ℕ). not (eqb x 0)) (left-over s t h) ∙ mask-any 16 (left s t) ∙ both-ways (anyBelow 16 (left s t)) (apart (bit s)) far near
+apart-past w s t h low on =
+    ap (λ (x : ℕ). not (eqb x 0)) (left-over w s t h) ∙ mask-any w (left s t)
+    ∙ both-ways (anyBelow w (left s t)) (apartIn w (bit s)) far near
   where
-    t : ℕ
-    t = trailingZeros 16 s
-
-    t16 : t < 16
-    t16 = low-lt 16 s h g
-
-    far : T (anyBelow 16 (left s t)) → T (apart (bit s))
+    far : T (anyBelow w (left s t)) → T (apartIn w (bit s))
     far u =
-        let a = any-elim 16 (left s t) u in
+        let a = any-elim w (left s t) u in
         let j = a .0 in
-        let on = and-left (bit s j) (not (leb t j && ltb (j - t) 2)) (a .2) in
-        let le : t ≤ j = low-le s j on in
+        let is = and-left (bit s j) (not (leb t j && ltb (j - t) 2)) (a .2) in
+        let le : t ≤ j = low j is in
         let gap : t + 2 ≤ j = le-of-suc-le-suc (lt-of-not-le (λ k.
         not-elim (leb t j && ltb (j - t) 2) (and-right (bit s j) (not (leb t j && ltb (j - t) 2)) (a .2))
         (and-intro (leb t j) (ltb (j - t) 2) (le→leb t j le) (lt→ltb (j - t) 2 (omega arith))))) in
-        apart-intro (bit s) (record { j = t; k = j; far = gap; k-lt = a .1; here = true-T (low-set 16 s t16); there = on })
+        apartIn-intro w (bit s) (record { j = t; k = j; far = gap; k-lt = a .1; here = on j (a .1) gap is; there = is })
 
-    near : T (apart (bit s)) → T (anyBelow 16 (left s t))
+    near : T (apartIn w (bit s)) → T (anyBelow w (left s t))
     near u =
-        let w = apart-elim (bit s) u in
-        let le : t ≤ w .j = low-le s (w .j) (w .here) in
-        let f = w .far in
-        any-intro 16 (left s t) (w .k) (w .k-lt)
-        (and-intro (bit s (w .k)) (not (leb t (w .k) && ltb (w .k - t) 2)) (w .there)
-        (not-intro (leb t (w .k) && ltb (w .k - t) 2) (λ x.
-        let m : w .k - t < 2 = ltb→lt (w .k - t) 2 (and-right (leb t (w .k)) (ltb (w .k - t) 2) x) in
+        let p = apartIn-elim w (bit s) u in
+        let le : t ≤ p .j = low (p .j) (p .here) in
+        let f = p .far in
+        any-intro w (left s t) (p .k) (p .k-lt)
+        (and-intro (bit s (p .k)) (not (leb t (p .k) && ltb (p .k - t) 2)) (p .there)
+        (not-intro (leb t (p .k) && ltb (p .k - t) 2) (λ x.
+        let m : p .k - t < 2 = ltb→lt (p .k - t) 2 (and-right (leb t (p .k)) (ltb (p .k - t) 2) x) in
         omega arith)))
-
-pub apart-none : (s : ℕ) → s ≡ 0 → false ≡ apart (bit s)
-apart-none s z =
-    sym (not-false (not-intro (apart (bit s)) (λ u.
-    let w = apart-elim (bit s) u in no-true (sym (bit-none (w .j)) ∙ ap (λ (x : ℕ). bit x (w .j)) (sym z) ∙ T-true (w .here)))))

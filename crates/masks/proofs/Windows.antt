@@ -1,5 +1,5 @@
 -- The masks that the code computes are the masks of the cell-by-cell tests. Assumes nothing.
-use mathlib.Core.Path.{_≡_, refl, sym, ap, ap₂, _∙_, subst}
+use mathlib.Core.Path.{_≡_, refl, sym, ap, ap₂, _∙_, subst, fun-ext}
 use mathlib.Core.Bool.{Bool, true, false, not, cond, _&&_, _||_, Bool·beq, and-true, and-false}
 use Prim.Native.Nat.{ℕ, suc, _+_, _-_, _*_, _/_, _%_, _^_, _≤_, _<_}
 use native.Mathlib.Nat.{div-le-self, lt-of-le-of-lt, mod-lt, add-comm}
@@ -25,7 +25,7 @@ use Rattle.rules.proofs.Bits.{differ, bit-and, bit-or, bit-xor, bit-shr, bit-no
 use Rattle.rules.proofs.Bits.{bit-mask, mask-lt, mask-and, mask-or, mask-not, mask-shl, bit-shl-in, bit-test, bit-one-in, mask-any}
 use Rattle.rules.proofs.Bits.{count-ones, bits-of, bit-mod, bit-shl, bit-above}
 use Rattle.rules.proofs.Windows.{count-le, scores-last}
-use Rattle.masks.specs.Masks.{digitAt, spelled, placed}
+use Rattle.masks.specs.Masks.{digitAt, sumAt, Tallied, spelled, placed}
 
 -- ---- what the code computes stays below 2 ^ 16
 pub and16 : (a b : ℕ) → a < 2 ^ 16 → b < 2 ^ 16 → bitAnd a b < 2 ^ 16
@@ -37,8 +37,11 @@ or16 = or-lt 16
 pub xor16 : (a b : ℕ) → a < 2 ^ 16 → b < 2 ^ 16 → bitXor a b < 2 ^ 16
 xor16 = xor-lt 16
 
+pub shr-lt : (w a d : ℕ) → a < 2 ^ w → a / d < 2 ^ w
+shr-lt w a d h = lt-of-le-of-lt (div-le-self a d) h
+
 pub shr16 : (a d : ℕ) → a < 2 ^ 16 → a / d < 2 ^ 16
-shr16 a d h = lt-of-le-of-lt (div-le-self a d) h
+shr16 = shr-lt 16
 
 pub not16 : (a : ℕ) → (2 ^ 16 - 1) - a < 2 ^ 16
 not16 a = ones-sub-lt 16 a
@@ -182,17 +185,43 @@ twos5 a b c d e = differ (differ (c1 a b c) (d && e)) (s1 a b c && differ d e)
 abbrev fours5 : Bool → Bool → Bool → Bool → Bool → Bool
 fours5 a b c d e = c1 a b c && (d && e) || s1 a b c && differ d e && differ (c1 a b c) (d && e)
 
-pub ones-bit : (my j : ℕ) → window ones5 my j ≡ bit (count (bit my) j) 0
-unfolding count bit
-ones-bit my j = by-table ones5 (λ a b c d e. bit (count5 a b c d e) 0) tt my j
+pub ones-bit : (a b c d e j : ℕ) → ones5 (bit a j) (bit b j) (bit c j) (bit d j) (bit e j) ≡ bit (sumAt a b c d e j) 0
+unfolding sumAt bit
+ones-bit a b c d e j = table5 ones5 (λ a b c d e. bit (count5 a b c d e) 0) tt (bit a j) (bit b j) (bit c j) (bit d j) (bit e j)
 
-pub twos-bit : (my j : ℕ) → window twos5 my j ≡ bit (count (bit my) j) 1
-unfolding count bit
-twos-bit my j = by-table twos5 (λ a b c d e. bit (count5 a b c d e) 1) tt my j
+pub twos-bit : (a b c d e j : ℕ) → twos5 (bit a j) (bit b j) (bit c j) (bit d j) (bit e j) ≡ bit (sumAt a b c d e j) 1
+unfolding sumAt bit
+twos-bit a b c d e j = table5 twos5 (λ a b c d e. bit (count5 a b c d e) 1) tt (bit a j) (bit b j) (bit c j) (bit d j) (bit e j)
 
-pub fours-bit : (my j : ℕ) → window fours5 my j ≡ bit (count (bit my) j) 2
+pub fours-bit : (a b c d e j : ℕ) → fours5 (bit a j) (bit b j) (bit c j) (bit d j) (bit e j) ≡ bit (sumAt a b c d e j) 2
+unfolding sumAt bit
+fours-bit a b c d e j = table5 fours5 (λ a b c d e. bit (count5 a b c d e) 2) tt (bit a j) (bit b j) (bit c j) (bit d j) (bit e j)
+
+-- a number of stones, up to five, by two of its digits
+pub two-digits : (own : Stones) (j : ℕ) → (bit (count own j) 1 && not (bit (count own j) 0)) ≡ eqb (count own j) 2
 unfolding count bit
-fours-bit my j = by-table fours5 (λ a b c d e. bit (count5 a b c d e) 2) tt my j
+two-digits own j =
+    table5 (λ a b c d e. bit (count5 a b c d e) 1 && not (bit (count5 a b c d e) 0)) (λ a b c d e. eqb (count5 a b c d e) 2) tt
+    (own j) (own (j + 1)) (own (j + 2)) (own (j + 3)) (own (j + 4))
+
+pub three-digits : (own : Stones) (j : ℕ) → (bit (count own j) 1 && bit (count own j) 0) ≡ eqb (count own j) 3
+unfolding count bit
+three-digits own j =
+    table5 (λ a b c d e. bit (count5 a b c d e) 1 && bit (count5 a b c d e) 0) (λ a b c d e. eqb (count5 a b c d e) 3) tt
+    (own j) (own (j + 1)) (own (j + 2)) (own (j + 3)) (own (j + 4))
+
+pub four-digits : (own : Stones) (j : ℕ) → (bit (count own j) 2 && not (bit (count own j) 0)) ≡ eqb (count own j) 4
+unfolding count bit
+four-digits own j =
+    table5 (λ a b c d e. bit (count5 a b c d e) 2 && not (bit (count5 a b c d e) 0)) (λ a b c d e. eqb (count5 a b c d e) 4) tt
+    (own j) (own (j + 1)) (own (j + 2)) (own (j + 3)) (own (j + 4))
+
+-- the five cells of each window tallied: its stones
+pub tallied-count : (w my ones twos fours : ℕ) → Tallied w (sumAt my (my / 2) (my / 4) (my / 8) (my / 16)) ones twos fours
+    → Tallied w (count (bit my)) ones twos fours
+unfolding sumAt count
+tallied-count w my ones twos fours t =
+    subst (λ (counts : ℕ → ℕ). Tallied w counts ones twos fours) (fun-ext (λ j. simp (shr1, shr2, shr3, shr4))) t
 
 -- ---- a number below 8 against another modulo 8, by three digits
 octal : (x : ℕ) → x % 8 ≡ digit (bit x 0) + digit (bit x 1) * 2 + digit (bit x 2) * 4

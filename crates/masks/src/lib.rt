@@ -16,8 +16,7 @@ ghost use lib.Dec.{leb};
 ghost use Rattle.rules.specs.Bit.{bit, maskOf};
 ghost use Rattle.rules.specs.Line.{inside, free, beside, readNumber, holds, scores, openAt, overAt, rowAt, span, through};
 ghost use Rattle.rules.specs.Line.{emptyAt, eyeOfSome, spreadAt, eyesOf, boundOf, soundLine, segmentMask};
-ghost use Rattle.rules.specs.Forbidden.{apart};
-ghost use Rattle.masks.specs.Masks.{Tallied, spelled};
+ghost use Rattle.masks.specs.Masks.{sumAt, Tallied, spelled};
 
 // The windows that lie on a line of `size` cells.
 pub fn starts(size: u8) -> u16
@@ -33,21 +32,22 @@ fn free_mask(op: u16) -> u16
     !(op | op >> 1 | op >> 2 | op >> 3 | op >> 4)
 }
 
-// How many own stones each window holds, as three masks for the binary digits 1, 2 and 4.
-struct Digits {
-    ones: u16,
-    twos: u16,
-    fours: u16,
+// How many of five masks have each bit, as three masks for the binary digits 1, 2 and 4.
+pub struct Digits {
+    pub ones: u16,
+    pub twos: u16,
+    pub fours: u16,
 }
 
-// A full adder on a window's first three cells, a half adder on its last two, then the carries.
-fn tally(my: u16) -> Digits
-    ensures { λ r. ⌜ Tallied (bit my) (r .ones) (r .twos) (r .fours) ⌝ }
+// A full adder on the first three masks, a half adder on the last two, then the carries. With the five cells of each window for the masks
+// it is how many stones each window holds.
+pub fn tally(a: u16, b: u16, c: u16, d: u16, e: u16) -> Digits
+    ensures { λ r. ⌜ Tallied 16 (sumAt a b c d e) (r .ones) (r .twos) (r .fours) ⌝ }
 {
-    let s1 = my ^ my >> 1 ^ my >> 2;
-    let c1 = my & my >> 1 | my >> 2 & (my ^ my >> 1);
-    let s2 = my >> 3 ^ my >> 4;
-    let c2 = my >> 3 & my >> 4;
+    let s1 = a ^ b ^ c;
+    let c1 = a & b | c & (a ^ b);
+    let s2 = d ^ e;
+    let c2 = d & e;
     let c3 = s1 & s2;
     Digits {
         ones: s1 ^ s2,
@@ -76,7 +76,7 @@ fn select(digits: Digits, n: u8) -> u16
 pub fn count_mask(my: u16, op: u16, size: u8, n: u8) -> u16
     ensures { λ r. ⌜ r ≡ maskOf 16 (holds size (bit my) (bit op) (readNumber n)) ⌝ }
 {
-    select(tally(my), n) & free_mask(op) & starts(size)
+    select(tally(my, my >> 1, my >> 2, my >> 3, my >> 4), n) & free_mask(op) & starts(size)
 }
 
 // For Black, the windows with a black stone just before or just after them, which a five there would join: dead. None for White.
@@ -156,16 +156,6 @@ pub fn row_starts_on(my: u16, op: u16, size: u8, black: bool, kind: RowKind, i: 
     ensures { λ r. ⌜ r ≡ maskOf 16 (λ j. rowAt black size (bit my) (bit op) kind j && through kind i j) ⌝ }
 {
     row_starts(my, op, size, black, kind) & starts_between(first_through(kind, i), i)
-}
-
-// Whether the starts on a line are more than one row: not all of them are in {j, j+1}. Past the first start and the next cell one is left.
-pub fn is_apart(starts: u16) -> bool
-    ensures { λ r. ⌜ r ≡ apart (bit starts) ⌝ }
-{
-    if starts == 0 {
-        return false;
-    }
-    starts & !(3u16 << u16::trailing_zeros(starts)) != 0
 }
 
 // The empty cells of the line.

@@ -1,8 +1,12 @@
 -- The laws of the referee.
-pub mod Marked
-pub mod Scan
 pub mod Gap
+pub mod Sighted
+pub mod Looked
+pub mod Search
 pub mod Asked
+pub mod Tested
+pub mod Strip
+pub mod Swept
 pub mod Ruled
 pub mod Seen
 pub mod Lines

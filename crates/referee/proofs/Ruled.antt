@@ -48,7 +48,7 @@ module _ (b : Board) (p : ℕ) where
   unfolding forbiddenRefusal first
   refused-taken {v = v} e z ev er =
       let (s, hp) = at-in b p (sym e ∙ z) in
-      er ∙ ap (λ (t : Bool). unless t 11) (sym (free-is (b .lines) p s hp ev)) ∙ rw (eq-eqb (refusalAt b p) 0 (sym e ∙ z)) refl
+      er ∙ ap (λ (t : Bool). unless t 11) (sym (free-is (b .lines) p hp ev)) ∙ rw (eq-eqb (refusalAt b p) 0 (sym e ∙ z)) refl
 
 -- the refusal of lent lines, test by test
 pub lines-refused : (l : List ℕ) (p : ℕ) {sound : Bool} {unsound far refused : ℕ} → sound ≡ isSound l → unsound ≡ unless sound 9

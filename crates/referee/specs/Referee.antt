@@ -1,36 +1,24 @@
 -- Section 5's tests as the code asks them. No public statement cites what is said here of masks or of lines.
-use mathlib.Core.Bool.{Bool, true, _&&_, _||_, cond}
+use mathlib.Core.Path.{_≡_}
+use mathlib.Core.Bool.{Bool, _&&_, cond}
 use mathlib.Core.List.{List}
-use Prim.Native.Nat.{ℕ, _+_, _/_, _%_}
-use lib.ListN.{getD, set}
+use Prim.Native.Nat.{ℕ, _+_, _-_, _/_, _%_, _<_}
+use lib.Dec.{T, leb}
+use lib.ListN.{getD}
 use Rattle.rules.specs.Tools.{anyBelow}
 use Rattle.rules.specs.Bit.{bit, maskOf}
 use Rattle.rules.specs.Line.{Stones}
 use Rattle.rules.specs.Point.{lineNo, pointAt}
-use Rattle.rules.specs.Grid.{isEmpty, Starts, stoneAt}
-use Rattle.rules.specs.Forbidden.{isDoubleThree, strictOf}
+use Rattle.rules.specs.Grid.{isEmpty, stoneAt, rowsThrough}
+use Rattle.rules.specs.Forbidden.{isOverline, isDoubleFour, isDoubleThree, completesFive, strictOf}
+use Rattle.rules.specs.declared.Player.{Player}
 use Rattle.rules.specs.declared.Player.the-variants.{Black}
-use Rattle.masks.specs.Masks.{placed}
+use Rattle.rules.specs.declared.RowKind.the-variants.{Two, Sword, Four, Overlining}
+use Rattle.point.specs.Places.{hasPlace}
+use Rattle.near.specs.Places.{farNo, atPlace, placesOf, farApart}
 use Rattle.grid.specs.Lines.{writeOn}
 use Rattle.board.specs.declared.board.Board.{Board}
-
--- ---- four start masks that travel together
-
--- the starts that they mark: direction, start
-abbrev pub marked : List ℕ → Starts
-marked starts d = bit (getD starts d 0)
-
--- a start on some line
-abbrev pub unitedAt : List ℕ → ℕ → Bool
-unitedAt starts j = anyBelow 4 (λ d. marked starts d j)
-
--- the masks with one more start, at place k: cell k % 16 of the line in direction k / 16
-unfoldable pub withStart : List ℕ → ℕ → List ℕ
-withStart starts k = set starts (k / 16) (maskOf 16 (placed (marked starts (k / 16)) (k % 16) true))
-
--- two of four
-abbrev pub twoOf : Bool → Bool → Bool → Bool → Bool
-twoOf a b c d = cond a (b || c || d) (cond b (c || d) (c && d))
+use Rattle.referee.specs.declared.look.Look.{Look}
 
 -- ---- the trial stone's question
 
@@ -45,6 +33,36 @@ gapFrom own j = cond (own j) (cond (own (j + 1)) (cond (own (j + 2)) (j + 3) (j 
 -- the point there, of the line through p in direction d
 unfoldable pub eyeOf : List ℕ → ℕ → ℕ → ℕ → ℕ
 eyeOf cells p d j = pointAt d (lineNo d p) (gapFrom (stoneAt Black cells d (lineNo d p)) j)
+
+-- ---- what is read near a point
+
+-- m has the player's masks of the stored lines through p
+unfoldable pub MasksOf : Player → List ℕ → ℕ → List ℕ → Type 0
+MasksOf r cells p m = (d : ℕ) → d < 4 → T (hasPlace d p) → getD m d 0 ≡ maskOf 16 (stoneAt r cells d (lineNo d p))
+
+-- w has the black stones at the places near p, on the stored lines through it
+unfoldable pub BlackNear : List ℕ → ℕ → ℕ → Type 0
+BlackNear cells p w =
+    (k : ℕ) → k < 64 → T (hasPlace (k / 16) p) → k % 16 < 11
+    → bit w k ≡ (leb 5 (farNo p k) && stoneAt Black cells (k / 16) (lineNo (k / 16) p) (farNo p k - 5))
+
+-- a look is what is seen in two words of places
+pub record SeenIn (blacks blocked : ℕ) (l : Look) : Type 0 where
+  pub fives : l .five ≡ anyBelow 64 (placesOf blacks blocked Four)
+  pub overlines : l .overline ≡ anyBelow 64 (placesOf blacks blocked Overlining)
+  pub fours : l .«double_four» ≡ farApart (placesOf blacks blocked Sword)
+  pub starts : l .twos ≡ maskOf 64 (placesOf blacks blocked Two)
+  pub stones : l .blacks ≡ blacks
+
+-- a look at p tells what section 5 wants to know
+pub record Looked (cells : List ℕ) (p : ℕ) (l : Look) : Type 0 where
+  pub fives : l .five ≡ completesFive cells p
+  pub overlines : l .overline ≡ isOverline cells p
+  pub fours : l .«double_four» ≡ isDoubleFour cells p
+  pub starts : l .twos ≡ maskOf 64 (atPlace (rowsThrough Black Two cells p) p)
+  pub stones : BlackNear cells p (l .blacks)
+
+-- ---- boards
 
 -- the board with a cell's value written at a point of its lines
 abbrev pub writtenBoard : Board → ℕ → ℕ → Board

@@ -1,26 +1,33 @@
-// The front on a board by value: each question tests what it is given, in section 2's order, and asks the referee on its copy of the lines.
+// The front, on a board by value and on cell bytes: each question tests what it is given, in section 2's order, and asks the referee.
+// Nothing that it is handed is changed.
 use super::answer::VerdictAnswer;
 use super::cycle::plain;
 use super::list::forbidden_pairs;
+use super::look::look_on;
 use super::on_lines::strict_on;
-use super::starts::has_multiple_starts;
+use super::single::strict_in;
 use super::thin::tried;
 use board::Board;
+use board::cells_refusal;
 use grid::cell_of;
-use grid::row_starts_on;
+use grid::cells_of;
 use lent::write_out;
+use near::is_apart;
+use point::code_refusal;
 use rules::CountAnswer;
-use rules::Player;
-use rules::RowKind;
 use rules::TestAnswer;
+use rules::first;
 use rules::unless;
 ghost use mathlib.Core.Path.{_≡_};
 ghost use Prim.Native.Nat.{_<_};
+ghost use Rattle.rules.specs.Refusals.{first};
 ghost use Rattle.rules.specs.Answers.{testAnswer};
 ghost use Rattle.rules.specs.Forbidden.{strictOf, plainOf, forbiddenList};
 ghost use Rattle.lent.specs.Lists.{counted, listOut};
+ghost use Rattle.point.specs.Points.{codeRefusal};
 ghost use Rattle.grid.specs.Lines.{cellsOf, Sound};
-ghost use Rattle.board.specs.Boards.{cells, boardRefusal, refusalAt};
+ghost use Rattle.grid.proofs.Lines.{Cells};
+ghost use Rattle.board.specs.Boards.{cells, boardRefusal, cellsRefusal, refusalAt};
 ghost use Rattle.referee.specs.Referee.{doubleThreeAt};
 ghost use Rattle.referee.specs.Answers.{verdictAnswer, forbiddenRefusal};
 
@@ -44,6 +51,19 @@ pub fn forbidden_strict(board: Board, code: u8) -> VerdictAnswer
     strict_on(&mut lines, code)
 }
 
+// The same of a board given as cell bytes: once they are tested, only the four lines through the point are read, until a nested question
+// arises.
+pub fn forbidden_strict_of(cells: &[u8], code: u8) -> VerdictAnswer
+    ensures { λ r. ⌜ r
+        ≡ verdictAnswer (first (cellsRefusal (now (cells .entry))) (codeRefusal code)) (strictOf (now (cells .entry)) code) ⌝ }
+{
+    let refused = first(cells_refusal(cells), code_refusal(code));
+    if refused != 0 {
+        return VerdictAnswer::Refused(refused);
+    }
+    VerdictAnswer::Is(strict_in(cells, code))
+}
+
 // Whether the point is empty and a double three for Black, whatever other kind it is.
 pub fn is_double_three(board: Board, code: u8) -> TestAnswer
     ensures { λ r. ⌜ r ≡ testAnswer (refusalAt board code) (doubleThreeAt (cells board) code) ⌝ }
@@ -65,10 +85,32 @@ pub fn forbidden_points(board: Board, out: &mut [u8]) -> CountAnswer
     if refused != 0 {
         return CountAnswer::Refused(refused);
     }
-    let mut lines = board.lines;
-    let found = forbidden_pairs(&mut lines);
+    let lines = board.lines;
+    let cells = cells_of(&lines);
+    listed(&cells, out)
+}
+
+// The same of a board given as cell bytes, whose lines are built only where a nested question arises.
+pub fn forbidden_points_of(cells: &[u8], out: &mut [u8]) -> CountAnswer
+    ensures { λ r. ⌜ (r ≡ counted 2 (cellsRefusal (now (cells .entry))) (now (out .entry)) (forbiddenList (now (cells .entry))))
+        × (now (out .exit) ≡ listOut (cellsRefusal (now (cells .entry))) (now (out .entry)) (forbiddenList (now (cells .entry)))) ⌝ }
+{
+    let refused = cells_refusal(cells);
+    if refused != 0 {
+        return CountAnswer::Refused(refused);
+    }
+    listed(cells, out)
+}
+
+// The list of the cells of a board; 13 where it has no room.
+fn listed(cells: &[u8], out: &mut [u8]) -> CountAnswer
+    requires { ⌜ Cells (now cells) ⌝ }
+    ensures { λ r. ⌜ (r ≡ counted 2 0 (now (out .entry)) (forbiddenList (now (cells .entry))))
+        × (now (out .exit) ≡ listOut 0 (now (out .entry)) (forbiddenList (now (cells .entry)))) ⌝ }
+{
+    let found = forbidden_pairs(cells);
     let bytes = found.bytes;
-    let refusal = write_out(refused, out, &bytes, found.len);
+    let refusal = write_out(0, out, &bytes, found.len);
     CountAnswer::of(refusal, (found.len / 2) as u16)
 }
 
@@ -92,7 +134,8 @@ fn double_three_at(lines: &[u16; 144], code: u8) -> bool
     if cell_of(lines, code) != 0 {
         return false;
     }
-    if has_multiple_starts(row_starts_on(lines, code, Player::Black, RowKind::Two)) {
+    let seen = look_on(lines, code);
+    if is_apart(seen.twos) {
         return tried(lines, code);
     }
     false

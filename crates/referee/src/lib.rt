@@ -1,16 +1,19 @@
-// The referee of forbidden.rs: a cycle of calls that asks on lent lines in place, and gives them back as they were.
+// The referee of forbidden.rs: a cycle of calls that asks on lent lines in place, and gives them back as they were. What needs no nested
+// question is seen by `near` at one point, and by `sweep` at all points at once.
 mod answer;
 mod cycle;
-mod eye;
 mod front;
 mod list;
+mod look;
 mod on_lines;
-mod starts;
+mod single;
 mod thin;
 
 pub use answer::VerdictAnswer;
 pub use front::forbidden;
 pub use front::forbidden_points;
+pub use front::forbidden_points_of;
 pub use front::forbidden_strict;
+pub use front::forbidden_strict_of;
 pub use front::is_double_three;
 pub use thin::forbidden_strict_in;

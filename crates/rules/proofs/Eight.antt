@@ -19,7 +19,7 @@ use Rattle.rules.specs.Views.{turn, undo}
 use Rattle.rules.specs.declared.Player.{Player}
 use Rattle.rules.specs.declared.Player.the-variants.{Black}
 use Rattle.rules.specs.declared.RowKind.{RowKind}
-use Rattle.rules.specs.declared.RowKind.the-variants.{Two, Three, Straight, Sword, Four, Five, Overlining, Overlined}
+use Rattle.rules.specs.declared.RowKind.the-variants.{Two, Three, Sword, Four, Overlining}
 use Rattle.rules.specs.declared.Verdict.{Verdict}
 use Rattle.rules.proofs.Logic.{and-left, and-right, and-intro, both-ways, any-elim, any-intro}
 use Rattle.rules.proofs.Address.{point-lt, line-here, size-le}
@@ -27,6 +27,7 @@ use Rattle.rules.proofs.Turns.{turnDir, flips, matched, turn-lt, turn-u
 use Rattle.rules.proofs.Turns.{turn-cell, turn-point}
 use Rattle.rules.proofs.Mirror.{Mirror, row-back, eye-back, among-back}
 use Rattle.rules.proofs.More.{TwoApart, Carried, someRow-carried, more-carried}
+use Rattle.rules.proofs.Windows.{span-le}
 use Rattle.rules.proofs.Rows.{stone-in, stone-out, through-inside, start-lt, eye-inside}
 
 -- B holds at each turned point what A holds at the point
@@ -98,16 +99,6 @@ move (suc b) n w j h = (n - w - j, omega arith)
 moved-apart : (b n w j k s r : ℕ) → Moved b n w j s → Moved b n w k r → j + 2 ≤ k → (s + 2 ≤ r) ⊎ (r + 2 ≤ s)
 moved-apart zero n w j k s r e e′ h = inl (omega arith)
 moved-apart (suc b) n w j k s r e e′ h = inr (omega arith)
-
-span-le : (k : RowKind) → span k ≤ 5
-span-le Two = omega arith
-span-le Three = omega arith
-span-le Straight = omega arith
-span-le Sword = omega arith
-span-le Four = omega arith
-span-le Five = omega arith
-span-le Overlining = omega arith
-span-le Overlined = omega arith
 
 -- the line through p in direction d: its size, and the player's stones on it
 abbrev sizeAt : ℕ → ℕ → ℕ

@@ -11,9 +11,11 @@ pub mod Around
 pub mod Mirror
 pub mod More
 pub mod Apart
+pub mod Back
 pub mod Changes
 pub mod Rows
 pub mod Eye
+pub mod Grown
 pub mod Fuel
 pub mod Eight
 pub mod Views

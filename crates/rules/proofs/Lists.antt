@@ -2,10 +2,10 @@
 use mathlib.Core.Path.{_≡_, refl, sym, ap, ap₂, _∙_}
 use mathlib.Core.Logic.{_⊎_, inl, inr, ⊎-elim}
 use mathlib.Core.Bool.{Bool, true, false, cond}
-use mathlib.Core.List.{List, [], _∷_, _++_, append-assoc}
+use mathlib.Core.List.{List, [], _∷_, _++_, append-assoc, append-nil}
 use Prim.Native.Nat.{ℕ, zero, suc, _+_, _*_, _≤_, _<_}
 use native.Mathlib.Omega.{arith}
-use native.Mathlib.Nat.{not-suc-le-zero, le-of-suc-le-suc, add-mul, one-mul, zero-mul}
+use native.Mathlib.Nat.{not-suc-le-zero, le-of-suc-le-suc, add-mul, one-mul, zero-mul, add-zero}
 use native.Mathlib.Decide.{ℕ-discrete}
 use lib.Dec.{eqb}
 use lib.ListN.{length, getD, length-append}
@@ -48,6 +48,18 @@ pub gather-cong : (n : ℕ) (f g : ℕ → List ℕ) → ((i : ℕ) → i < n �
 unfolding gather
 gather-cong zero f g h = refl
 gather-cong (suc n) f g h = ap₂ _++_ (gather-cong n f g (λ i l. h i (omega arith))) (h n (omega arith))
+
+-- what gives nothing may be passed over
+pub gather-skip : (f : ℕ → List ℕ) (n k : ℕ) → ((i : ℕ) → n ≤ i → i < n + k → f i ≡ []) → gather (n + k) f ≡ gather n f
+unfolding gather
+gather-skip f n zero h = ap (λ (x : ℕ). gather x f) (add-zero n)
+gather-skip f n (suc k) h =
+    ap (λ (x : ℕ). gather x f) (add-suc n k)
+    ∙ ap₂ _++_ (gather-skip f n k (λ i a b. h i a (omega arith))) (h (n + k) (omega arith) (omega arith))
+    ∙ append-nil (gather n f)
+  where
+    add-suc : (n k : ℕ) → n + suc k ≡ suc (n + k)
+    add-suc n k = omega arith
 
 -- from the front
 pub gather-front : (n : ℕ) (f : ℕ → List ℕ) → gather (suc n) f ≡ f 0 ++ gather n (λ i. f (suc i))

@@ -86,6 +86,11 @@ and-flip true false = refl
 and-flip false true = refl
 and-flip false false = refl
 
+-- what follows a passed test may be replaced by what it equals there
+pub and-same : (a x y : Bool) → (T a → x ≡ y) → (a && x) ≡ (a && y)
+and-same true x y e = e tt
+and-same false x y e = refl
+
 -- two tests are one where each passes with the other
 pub both-ways : (a b : Bool) → (T a → T b) → (T b → T a) → a ≡ b
 both-ways true true f g = refl
@@ -151,6 +156,12 @@ not-any n f =
     both-ways (not (anyBelow n f)) (allBelow n (λ i. not (f i)))
     (λ t. all-intro n (λ i. not (f i)) (λ i h. not-intro (f i) (λ u. not-elim (anyBelow n f) t (any-intro n f i h u))))
     (λ t. not-intro (anyBelow n f) (λ u. let (i, h, v) = any-elim n f u in not-elim (f i) (all-elim n (λ i. not (f i)) t i h) v))
+
+pub any-cong : (n : ℕ) (f g : ℕ → Bool) → ((j : ℕ) → j < n → f j ≡ g j) → anyBelow n f ≡ anyBelow n g
+any-cong n f g h =
+    both-ways (anyBelow n f) (anyBelow n g)
+    (λ t. let (j, l, u) = any-elim n f t in any-intro n g j l (subst T (h j l) u))
+    (λ t. let (j, l, u) = any-elim n g t in any-intro n f j l (subst T (sym (h j l)) u))
 
 pub all-cong : (n : ℕ) (f g : ℕ → Bool) → ((i : ℕ) → i < n → f i ≡ g i) → allBelow n f ≡ allBelow n g
 all-cong n f g e =

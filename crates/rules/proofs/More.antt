@@ -2,7 +2,7 @@
 use mathlib.Core.Path.{_≡_, sym, subst}
 use mathlib.Core.Logic.{_⊎_, inl, inr}
 use mathlib.Core.Bool.{Bool, not, _&&_}
-use Prim.Native.Nat.{ℕ, _+_, _-_, _≤_, _<_}
+use Prim.Native.Nat.{ℕ, _+_, _≤_, _<_}
 use native.Mathlib.Omega.{arith}
 use lib.Dec.{T, leb, eqb, eqb→eq, eqb-refl, leb→le, le→leb}
 use Rattle.rules.specs.Tools.{anyBelow}
@@ -37,13 +37,16 @@ pub record TwoLines (s : Starts) : Type 0 where
   pub here : T (s d1 j1)
   pub there : T (s d2 j2)
 
-pub record TwoApart (s : ℕ → Bool) : Type 0 where
+pub record TwoWithin (w : ℕ) (s : ℕ → Bool) : Type 0 where
   pub j : ℕ
   pub k : ℕ
   pub far : j + 2 ≤ k
-  pub k-lt : k < 16
+  pub k-lt : k < w
   pub here : T (s j)
   pub there : T (s k)
+
+abbrev pub TwoApart : (ℕ → Bool) → Type 0
+TwoApart s = TwoWithin 16 s
 
 pub two-elim : (s : Starts) → T (onTwoLines s) → TwoLines s
 unfolding onTwoLines
@@ -82,31 +85,41 @@ two-intro s w =
     (not-intro (eqb (w .d1) (w .d2)) (λ q. w .differ (eqb→eq (w .d1) (w .d2) q)))
     (any-intro 16 (s (w .d2)) (w .j2) (w .j2-lt) (w .there)))))
 
-pub apart-elim : (s : ℕ → Bool) → T (apart s) → TwoApart s
-unfolding apart
-apart-elim s t =
-    let a = any-elim 16 (λ j. s j && anyBelow 16 (λ k. leb (j + 2) k && s k)) t in
+-- "a set not contained in {j, j+1}", of the first w starts
+abbrev pub apartIn : ℕ → (ℕ → Bool) → Bool
+apartIn w s = anyBelow w (λ j. s j && anyBelow w (λ k. leb (j + 2) k && s k))
+
+pub apartIn-elim : (w : ℕ) (s : ℕ → Bool) → T (apartIn w s) → TwoWithin w s
+apartIn-elim w s t =
+    let a = any-elim w (λ j. s j && anyBelow w (λ k. leb (j + 2) k && s k)) t in
     let j = a .0 in
-    let b = any-elim 16 (λ k. leb (j + 2) k && s k) (and-right (s j) (anyBelow 16 (λ k. leb (j + 2) k && s k)) (a .2)) in
+    let b = any-elim w (λ k. leb (j + 2) k && s k) (and-right (s j) (anyBelow w (λ k. leb (j + 2) k && s k)) (a .2)) in
     let k = b .0 in
     record {
       j = j;
       k = k;
       far = leb→le (j + 2) k (and-left (leb (j + 2) k) (s k) (b .2));
       k-lt = b .1;
-      here = and-left (s j) (anyBelow 16 (λ k. leb (j + 2) k && s k)) (a .2);
+      here = and-left (s j) (anyBelow w (λ k. leb (j + 2) k && s k)) (a .2);
       there = and-right (leb (j + 2) k) (s k) (b .2);
     }
 
+pub apartIn-intro : (w : ℕ) (s : ℕ → Bool) → TwoWithin w s → T (apartIn w s)
+apartIn-intro w s p =
+    let hf = p .far in
+    let hk = p .k-lt in
+    any-intro w (λ j. s j && anyBelow w (λ k. leb (j + 2) k && s k)) (p .j) (omega arith)
+    (and-intro (s (p .j)) (anyBelow w (λ k. leb (p .j + 2) k && s k)) (p .here)
+    (any-intro w (λ k. leb (p .j + 2) k && s k) (p .k) hk
+    (and-intro (leb (p .j + 2) (p .k)) (s (p .k)) (le→leb (p .j + 2) (p .k) hf) (p .there))))
+
+pub apart-elim : (s : ℕ → Bool) → T (apart s) → TwoApart s
+unfolding apart
+apart-elim s t = apartIn-elim 16 s t
+
 pub apart-intro : (s : ℕ → Bool) → TwoApart s → T (apart s)
 unfolding apart
-apart-intro s w =
-    let hf = w .far in
-    let hk = w .k-lt in
-    any-intro 16 (λ j. s j && anyBelow 16 (λ k. leb (j + 2) k && s k)) (w .j) (omega arith)
-    (and-intro (s (w .j)) (anyBelow 16 (λ k. leb (w .j + 2) k && s k)) (w .here)
-    (any-intro 16 (λ k. leb (w .j + 2) k && s k) (w .k) hk
-    (and-intro (leb (w .j + 2) (w .k)) (s (w .k)) (le→leb (w .j + 2) (w .k) hf) (w .there))))
+apart-intro s p = apartIn-intro 16 s p
 
 pub more-elim : (s : Starts) → T (moreThanOne s) → TwoLines s ⊎ ((d : ℕ) × (d < 4) × TwoApart (s d))
 unfolding moreThanOne

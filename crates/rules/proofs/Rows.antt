@@ -1,5 +1,5 @@
 -- The rows and eyes of a board: where they can be. Assumes nothing.
-use mathlib.Core.Path.{_≡_}
+use mathlib.Core.Path.{_≡_, ap, _∙_}
 use mathlib.Core.Bool.{false, _&&_}
 use mathlib.Core.List.{List}
 use Prim.Native.Nat.{ℕ, _+_, _≤_, _<_}
@@ -14,7 +14,7 @@ use Rattle.rules.specs.Grid.{stoneAt, rowOn, eyeOn, rowsThrough}
 use Rattle.rules.specs.declared.Player.{Player}
 use Rattle.rules.specs.declared.RowKind.{RowKind}
 use Rattle.rules.proofs.Logic.{and-left, and-right}
-use Rattle.rules.proofs.Address.{size-le}
+use Rattle.rules.proofs.Address.{point-here, cell-here, size-le}
 use Rattle.rules.proofs.Windows.{row-inside}
 
 -- a line inside and outside
@@ -26,6 +26,13 @@ stone-in r cells d i j h = rw (lt-ltb j (lineSize d i) h)
 pub stone-out : (r : Player) (cells : List ℕ) (d i j : ℕ) → lineSize d i ≤ j → stoneAt r cells d i j ≡ false
 unfolding stoneAt
 stone-out r cells d i j h = rw (le-ltb j (lineSize d i) h)
+
+-- a stone stands at a point, on the line in any direction, where the cell has its colour's number
+pub stone-here : (r : Player) (cells : List ℕ) (d p : ℕ) → d < 4 → p < 225
+    → stoneAt r cells d (lineNo d p) (cellNo d p) ≡ eqb (getD cells p 0) (colourNo r)
+stone-here r cells d p hd hp =
+    stone-in r cells d (lineNo d p) (cellNo d p) (cell-here d p hd hp)
+    ∙ ap (λ (x : ℕ). eqb (getD cells x 0) (colourNo r)) (point-here d p hd hp)
 
 -- a row lies on its line
 pub rowOn-inside : (r : Player) (k : RowKind) (cells : List ℕ) (d i j : ℕ) → T (rowOn r k cells d i j) → j + 5 ≤ lineSize d i

@@ -9,12 +9,23 @@ use lib.IntN.{pos, negsuc}
 use borrow.Author.Tests.{eq-eqb, ne-eqb}
 use Rattle.rules.specs.Tools.{allBelow}
 use Rattle.rules.specs.Line.{Stones, inside, free, count, beside, dead, score, scores, holds, pairAt, noStone, openAt, overAt}
-use Rattle.rules.specs.Line.{rowAt, rowStones}
+use Rattle.rules.specs.Line.{span, rowAt, rowStones}
 use Rattle.rules.specs.declared.RowKind.{RowKind}
 use Rattle.rules.specs.declared.RowKind.the-variants.{Two, Three, Straight, Sword, Four, Five, Overlining, Overlined}
 use Rattle.rules.proofs.Logic.{true-T, not-false, and-left, and-right, and-intro, implies, implied, all-elim}
 use Rattle.rules.proofs.Tables.{at5}
 use Rattle.rules.proofs.Bits.{digit-lt}
+
+-- no row spans more than five cells
+pub span-le : (k : RowKind) → span k ≤ 5
+span-le Two = omega arith
+span-le Three = omega arith
+span-le Straight = omega arith
+span-le Sword = omega arith
+span-le Four = omega arith
+span-le Five = omega arith
+span-le Overlining = omega arith
+span-le Overlined = omega arith
 
 -- no window holds more than five own stones: 6 and 7 match nothing
 pub count-le : (own : Stones) (j : ℕ) → count own j ≤ 5

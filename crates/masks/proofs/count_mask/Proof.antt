@@ -1,7 +1,7 @@
 -- `masks::count_mask` meets its contract. Assumes nothing.
 use borrow.Author.Needs.{needs}
 use Rattle.rules.proofs.Bits.{mask-cong}
-use Rattle.masks.proofs.Windows.{masks, count-bit}
+use Rattle.masks.proofs.Windows.{masks, tallied-count, count-bit}
 use Rattle.masks.proofs.count_mask.Statement.{statement}
 use Rattle.masks.proofs.count_mask.Tie as tie
 
@@ -19,7 +19,7 @@ starts-requires c κs = search needs
 
 returns : tie.Need-returns
 returns c =
-    let t = c .before .before .before .tally .ensures in
+    let t = tallied-count 16 _ _ _ _ (c .before .before .before .tally .ensures) in
     simp (c .before .before .select .ensures, c .before .free-mask .ensures, c .starts .ensures, t .first, t .second, t .third, masks)
     (mask-cong 16 _ _ (λ j k. count-bit _ _ _ _ j k))
 

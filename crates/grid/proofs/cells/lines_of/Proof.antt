@@ -2,14 +2,16 @@
 use mathlib.Core.Path.{_≡_, ap, ap₂, sym, _∙_}
 use mathlib.Core.List.{List}
 use mathlib.Core.Logic.{⊎-elim}
-use Prim.Native.Nat.{ℕ, _≤_, _-_}
+use Prim.Native.Nat.{ℕ, _≤_, _<_, _-_}
 use native.Mathlib.Omega.{arith}
 use lib.ListN.{getD}
 use borrow.Author.Needs.{needs}
+use Rattle.rules.specs.Numbers.{playerOf, isColour}
+use Rattle.rules.specs.declared.Player.{Player}
 use Rattle.lent.specs.Lists.{zeros}
-use Rattle.grid.specs.Lines.{linesOf, writeOn}
-use Rattle.grid.proofs.Lines.{write-linesOf}
-use Rattle.grid.proofs.Filled.{filled, filled-more, filled-skip, length-filled, lines-start, lines-filled}
+use Rattle.grid.specs.Lines.{linesOf, addOn}
+use Rattle.grid.proofs.Filled.{filled, filled-more, filled-next, length-filled, lines-start, lines-filled}
+use Rattle.grid.proofs.Marked.{add-linesOf, skip-linesOf}
 use Rattle.grid.proofs.cells.lines_of.Statement.{statement}
 use Rattle.grid.proofs.cells.lines_of.Tie as tie
 
@@ -29,8 +31,14 @@ cast-value-at c = omega arith
 value-at-requires : tie.Need-value-at-requires Inv-loop μ-loop
 value-at-requires c κs = search needs
 
-write-on-requires : tie.Need-write-on-requires Inv-loop μ-loop
-write-on-requires c κs = search needs
+is-colour-requires : tie.Need-is-colour-requires Inv-loop μ-loop
+is-colour-requires c κs = search needs
+
+of-requires : tie.Need-of-requires Inv-loop μ-loop
+of-requires c κs = search needs
+
+add-on-requires : tie.Need-add-on-requires Inv-loop μ-loop
+add-on-requires c κs = search needs
 
 add-i : tie.Need-add-i Inv-loop μ-loop
 add-i c = omega arith
@@ -40,15 +48,20 @@ loop-less c = omega arith
 
 loop-again : tie.Need-loop-again Inv-loop μ-loop
 loop-again c =
-    let s = c .before .before .before in
+    let s = c .before .before .before .before in
     let i = s .loop .i in
     let f : ℕ → ℕ = λ p. getD (s .before .before .args .cells .now) p 0 in
-    let value = c .before .value-at .ensures in (
+    let value = c .before .before .value-at .ensures in
+    let hi : i < 225 = omega arith in
+    let long = length-filled 225 f i in
+    let none = filled-next 225 f i hi in
+    let asked = ap isColour (sym value) ∙ sym (c .before .is-colour .ensures) in (
       omega arith,
       ⊎-elim
-          (λ w. w .3 ∙ w .2 .ensures ∙ ap₂ (λ (l : List ℕ) (v : ℕ). writeOn l i v) (s .loop .inv .1) value
-          ∙ write-linesOf (filled 225 f i) i (f i) (length-filled 225 f i) ∙ ap linesOf (filled-more 225 f i (omega arith)))
-          (λ w. w .1 ∙ s .loop .inv .1 ∙ ap linesOf (filled-skip 225 f i (omega arith) (sym value ∙ w .0 .left)))
+          (λ w. w .4 ∙ w .3 .ensures ∙ ap₂ (λ (l : List ℕ) (r : Player). addOn l i r) (s .loop .inv .1) (w .2 .ensures ∙ ap playerOf value)
+          ∙ add-linesOf (filled 225 f i) i (f i) long hi none (asked ∙ w .0 .taken) ∙ ap linesOf (filled-more 225 f i hi))
+          (λ w. w .1 ∙ s .loop .inv .1 ∙ skip-linesOf (filled 225 f i) i (f i) long hi none (asked ∙ w .0 .left)
+          ∙ ap linesOf (filled-more 225 f i hi))
           (c .if1 .came),
     )
 
@@ -67,7 +80,9 @@ lines-of-spec =
     loop-holds
     cast-value-at
     value-at-requires
-    write-on-requires
+    is-colour-requires
+    of-requires
+    add-on-requires
     add-i
     loop-less
     loop-again

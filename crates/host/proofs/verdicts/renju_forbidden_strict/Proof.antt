@@ -1,55 +1,26 @@
--- `host::verdicts::renju_forbidden_strict` meets its contract: refused, or asked of the board of the cells. Assumes nothing.
-use mathlib.Core.Path.{_∙_, ap, ap₂}
-use mathlib.Core.List.{List}
+-- `host::verdicts::renju_forbidden_strict` meets its contract: what the referee answers of the cells, as a word. Assumes nothing.
+use mathlib.Core.Path.{_∙_, ap}
 use Prim.Native.Nat.{ℕ}
-use denote.Ref.{now}
 use Rattle.rules.specs.Numbers.{verdictNo}
 use Rattle.rules.specs.Forbidden.{strictOf}
-use Rattle.board.specs.Boards.{refusalAt}
 use Rattle.host.specs.Answers.{word, verdictWord}
-use Rattle.host.proofs.Words.{refused-word, verdict-word}
-use Rattle.host.proofs.Asked.{refused-asked, asked, same-cells}
+use Rattle.host.proofs.Words.{verdict-word}
+use Rattle.host.proofs.Asked.{at-board}
 use borrow.Author.Needs.{needs}
 use Rattle.host.proofs.verdicts.renju_forbidden_strict.Statement.{statement}
 use Rattle.host.proofs.verdicts.renju_forbidden_strict.Tie as tie
 
-from-cells-requires : tie.Need-from-cells-requires
-from-cells-requires c κs = search needs
-
-word-requires : tie.Need-word-requires
-word-requires c κs = search needs
-
-returns : tie.Need-returns
-returns c =
-    let f = c .before .before .before in
-    let a = f .before .before .args in
-    let given = c .before .if1 .taken in
-    let told = refused-asked (now (a .cells)) _ (f .from-cells .ensures) given (λ b. refusalAt b (a .code)) in
-    refused-word told given _ (c .word .ensures)
-
-forbidden-strict-requires : tie.Need-forbidden-strict-requires
-forbidden-strict-requires c κs = search needs
+forbidden-strict-of-requires : tie.Need-forbidden-strict-of-requires
+forbidden-strict-of-requires c κs = search needs
 
 verdict-word-requires : tie.Need-verdict-word-requires
 verdict-word-requires c κs = search needs
 
-returns-2 : tie.Need-returns-2
-returns-2 c =
-    let o = c .before .before in
-    let f = o .before .before in
-    let a = f .before .before .args in
-    let told = asked (now (a .cells)) _ (f .from-cells .ensures) (o .if1 .left) (λ b. refusalAt b (a .code)) in
-    let same = same-cells (now (a .cells)) _ (f .from-cells .ensures) (o .if1 .left) in
-    c .verdict-word .ensures ∙ ap verdictWord (c .before .forbidden-strict .ensures) ∙ verdict-word _ _
-    ∙ ap₂ (λ (n : ℕ) (x : List ℕ). word n (verdictNo (strictOf x (a .code)))) told same
+returns : tie.Need-returns
+returns c =
+    let a = c .before .before .before .args in
+    c .verdict-word .ensures ∙ ap verdictWord (c .before .forbidden-strict-of .ensures) ∙ verdict-word _ _
+    ∙ ap (λ (n : ℕ). word n (verdictNo (strictOf (a .cells .now) (a .code)))) (at-board (a .cells .now) (a .code))
 
 pub renju-forbidden-strict-spec : {M : Type 1} → statement M
-renju-forbidden-strict-spec =
-    tie.close
-    (tie.spec
-    from-cells-requires
-    word-requires
-    returns
-    forbidden-strict-requires
-    verdict-word-requires
-    returns-2)
+renju-forbidden-strict-spec = tie.close (tie.spec forbidden-strict-of-requires verdict-word-requires returns)

@@ -2,8 +2,9 @@
 use mathlib.Core.Path.{ap, sym, _∙_}
 use mathlib.Core.Bool.{Bool, _&&_}
 use Rattle.rules.specs.Forbidden.{withBlack, realDouble, strictOf}
+use Rattle.rules.specs.declared.RowKind.the-variants.{Two}
 use Rattle.grid.specs.Lines.{cellsOf}
-use Rattle.referee.proofs.Asked.{cell-is, double-taken, double-free}
+use Rattle.referee.proofs.Asked.{cell-is, double-taken, double-free, apart-more}
 use borrow.Author.Needs.{needs}
 use Rattle.referee.proofs.front.double_three_at.Statement.{statement}
 use Rattle.referee.proofs.front.double_three_at.Tie as tie
@@ -14,13 +15,13 @@ cell-of-requires c κs = search needs
 returns : tie.Need-returns
 returns c =
     let s = c .before .before in
-    double-taken (s .args .lines .now) (s .args .code) (s .pre .0) (s .pre .1) (c .before .cell-of .ensures) (c .if1 .taken)
+    double-taken (s .args .lines .now) (s .args .code) (s .pre .1) (c .before .cell-of .ensures) (c .if1 .taken)
 
-row-starts-on-requires : tie.Need-row-starts-on-requires
-row-starts-on-requires c κs = search needs
+look-on-requires : tie.Need-look-on-requires
+look-on-requires c κs = c .before .before .pre
 
-has-multiple-starts-requires : tie.Need-has-multiple-starts-requires
-has-multiple-starts-requires c κs = search needs
+is-apart-requires : tie.Need-is-apart-requires
+is-apart-requires c κs = search needs
 
 tried-requires : tie.Need-tried-requires
 tried-requires c κs =
@@ -28,7 +29,7 @@ tried-requires c κs =
     let s = o .before .before in (
       s .pre .0,
       s .pre .1,
-      sym (cell-is (s .args .lines .now) (s .args .code) (s .pre .0) (s .pre .1) (o .before .cell-of .ensures))
+      sym (cell-is (s .args .lines .now) (s .args .code) (s .pre .1) (o .before .cell-of .ensures))
           ∙ o .if1 .left,
     )
 
@@ -38,8 +39,9 @@ returns-2 c =
     let s = o .before .before in
     let D = realDouble strictOf (withBlack (cellsOf (s .args .lines .now)) (s .args .code)) (s .args .code) in
     c .tried .ensures ∙ ap (λ (b : Bool). b && D) (sym (c .before .if2 .taken))
-    ∙ double-free (s .args .lines .now) (s .args .code) (s .pre .0) (s .pre .1) (o .before .cell-of .ensures) (o .if1 .left)
-    (c .before .before .before .row-starts-on .ensures) (c .before .before .has-multiple-starts .ensures)
+    ∙ double-free (s .args .lines .now) (s .args .code) (s .pre .1) (o .before .cell-of .ensures) (o .if1 .left)
+    (apart-more (cellsOf (s .args .lines .now)) (s .args .code) Two (s .pre .1) (c .before .before .before .look-on .ensures .starts)
+    (c .before .before .is-apart .ensures))
 
 returns-3 : tie.Need-returns-3
 returns-3 c =
@@ -47,8 +49,9 @@ returns-3 c =
     let s = o .before .before in
     let D = realDouble strictOf (withBlack (cellsOf (s .args .lines .now)) (s .args .code)) (s .args .code) in
     ap (λ (b : Bool). b && D) (sym (c .if2 .left))
-    ∙ double-free (s .args .lines .now) (s .args .code) (s .pre .0) (s .pre .1) (o .before .cell-of .ensures) (o .if1 .left)
-    (c .before .before .row-starts-on .ensures) (c .before .has-multiple-starts .ensures)
+    ∙ double-free (s .args .lines .now) (s .args .code) (s .pre .1) (o .before .cell-of .ensures) (o .if1 .left)
+    (apart-more (cellsOf (s .args .lines .now)) (s .args .code) Two (s .pre .1) (c .before .before .look-on .ensures .starts)
+    (c .before .is-apart .ensures))
 
 pub double-three-at-spec : {M : Type 1} → statement M
 double-three-at-spec =
@@ -56,8 +59,8 @@ double-three-at-spec =
     (tie.spec
     cell-of-requires
     returns
-    row-starts-on-requires
-    has-multiple-starts-requires
+    look-on-requires
+    is-apart-requires
     tried-requires
     returns-2
     returns-3)

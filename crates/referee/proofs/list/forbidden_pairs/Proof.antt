@@ -1,5 +1,5 @@
--- `referee::list::forbidden_pairs` meets its contract: after p turns the points below p are asked. Assumes nothing.
-use mathlib.Core.Path.{_≡_, refl, sym, ap, subst, _∙_}
+-- `referee::list::forbidden_pairs` meets its contract: after a turn the points below p are asked, or known to be none. Assumes nothing.
+use mathlib.Core.Path.{_≡_, refl, sym, subst, _∙_}
 use mathlib.Core.List.{List}
 use Prim.Native.Nat.{ℕ, _-_, _≤_}
 use native.Mathlib.Omega.{arith}
@@ -8,31 +8,71 @@ use Rattle.rules.specs.Tools.{gather}
 use Rattle.rules.specs.Forbidden.{strictOf, entry, forbiddenList}
 use Rattle.lent.specs.Lists.{zeros, Wrote}
 use Rattle.lent.proofs.Laws.{wrote-start, wrote-length, gather-step, gather-end}
-use Rattle.grid.specs.Lines.{cellsOf, Sound}
+use Rattle.referee.proofs.Swept.{column-skip, lines-wanted}
 use Rattle.referee.proofs.Ruled.{pairs-short, entry-is}
 use Rattle.referee.proofs.list.forbidden_pairs.Statement.{statement}
 use Rattle.referee.proofs.list.forbidden_pairs.Tie as tie
 
 abbrev Inv-loop : tie.InvT-loop
-Inv-loop lines₀ bytes₀ n₀ p₀ lines bytes n p =
-    (lines ≡ lines₀) × (p ≤ 225) × Wrote (zeros 450) 0 (gather p (λ q. entry (strictOf (cellsOf lines₀) q) q)) bytes n
+Inv-loop cells overlines double-fours double-twos twos marked lines₀ bytes₀ n₀ p₀ lines bytes n p =
+    (lines ≡ lines₀) × (p ≤ 225) × Wrote (zeros 450) 0 (gather p (λ q. entry (strictOf cells q) q)) bytes n
 
 abbrev μ-loop : tie.MeasureT-loop
-μ-loop lines₀ bytes₀ n₀ p₀ lines bytes n p = 225 - p
+μ-loop cells overlines double-fours double-twos twos marked lines₀ bytes₀ n₀ p₀ lines bytes n p =
+    225 - p
+
+sweep-points-requires : tie.Need-sweep-points-requires Inv-loop μ-loop
+sweep-points-requires c κs =
+    search needs
+
+marked-columns-requires : tie.Need-marked-columns-requires Inv-loop μ-loop
+marked-columns-requires c κs =
+    search needs
+
+marked-columns-requires-2 : tie.Need-marked-columns-requires-2 Inv-loop μ-loop
+marked-columns-requires-2 c κs =
+    search needs
+
+marked-columns-requires-3 : tie.Need-marked-columns-requires-3 Inv-loop μ-loop
+marked-columns-requires-3 c κs =
+    search needs
+
+lines-if-requires : tie.Need-lines-if-requires Inv-loop μ-loop
+lines-if-requires c κs =
+    search needs
 
 loop-holds : tie.Need-loop-holds Inv-loop μ-loop
 unfolding zeros
 loop-holds c =
     (refl, omega arith, wrote-start 450 _)
 
-strict-requires : tie.Need-strict-requires Inv-loop μ-loop
-strict-requires c κs =
-    let a = c .before .before in
-    (subst Sound (sym (a .loop .inv .0)) (a .before .pre), c .before .loop-test .taken)
+bit-at-requires : tie.Need-bit-at-requires Inv-loop μ-loop
+bit-at-requires c κs =
+    search needs
+
+verdict-at-requires : tie.Need-verdict-at-requires Inv-loop μ-loop
+verdict-at-requires c κs =
+    let a = c .before .before .before .before .before .before .before in
+    let l = a .before in
+    let f = l .before in
+    let o = f .before .before in
+    let t = o .before .before in
+    let w = t .before .before .before .before .before .sweep-points .ensures in
+    let s = t .before .before .before .before .before .before .before in
+    let C = s .args .cells .now in
+    let hp = c .before .before .before .before .before .before .loop-test .taken in (
+      s .pre,
+      hp,
+      (λ u. a .loop .inv .0 ∙ lines-wanted C (s .pre .long) (w .0) (w .1) (w .2) (o .marked-columns2 .ensures)
+          (f .marked-columns3 .ensures) (t .marked-columns .ensures) refl (a .loop .p) hp u (l .lines-if .ensures)),
+      w .0,
+      w .1,
+      w .2,
+    )
 
 slice-aggregate-keep : tie.Need-slice-aggregate-keep Inv-loop μ-loop
 slice-aggregate-keep c =
-    wrote-length 450 (c .before .before .before .before .loop .inv .2)
+    wrote-length 450 (c .before .before .before .before .before .before .before .before .before .loop .inv .2)
 
 is-kind-requires : tie.Need-is-kind-requires Inv-loop μ-loop
 is-kind-requires c κs =
@@ -52,37 +92,67 @@ keep-requires c κs =
 
 add-p : tie.Need-add-p Inv-loop μ-loop
 add-p c =
-    search needs
+    omega arith
 
 loop-less : tie.Need-loop-less Inv-loop μ-loop
 loop-less c =
-    search needs
+    omega arith
 
 loop-again : tie.Need-loop-again Inv-loop μ-loop
 loop-again c =
-    let n = c .before .before .before .before .before .before .before .before in
-    let a = n .before in
-    let C = cellsOf (a .before .args .lines .now) in
+    let a = c .before .before .before .before .before .before .before .before .before .before .before .before .before .before in
+    let s = a .before .before .before .before .before .before .before .before .before .before .before .before .before in
+    let C = s .args .cells .now in
     let p = a .loop .p in
-    let e = a .loop .inv .0 in
-    let v = c .before .before .before .before .before .before .strict in
+    let v = c .before .before .before .before .before .before .verdict-at .ensures in
+    let hp = c .before .before .before .before .before .before .before .before .before .before .before .before .before .loop-test
+    .taken in
     let fit = pairs-short C p in (
-      v .ensures .1 ∙ e,
+      v .1 ∙ a .loop .inv .0,
       omega arith,
       gather-step 450 (λ q. entry (strictOf C q) q) p _ _ _ _ _ _ (a .loop .inv .2) (omega arith) (c .before .keep .ensures)
-          (sym (entry-is p (v .ensures .0 ∙ ap (λ (l : List ℕ). strictOf (cellsOf l) p) e)
-          (c .before .before .before .before .is-kind .ensures)
-          (c .before .before .before .number .ensures))),
+          (sym (entry-is p (v .0) (c .before .before .before .before .is-kind .ensures) (c .before .before .before .number .ensures))),
+    )
+
+sub-p : tie.Need-sub-p Inv-loop μ-loop
+sub-p c =
+    omega arith
+
+add-p-2 : tie.Need-add-p-2 Inv-loop μ-loop
+add-p-2 c =
+    omega arith
+
+loop-less-2 : tie.Need-loop-less-2 Inv-loop μ-loop
+loop-less-2 c =
+    omega arith
+
+loop-again-2 : tie.Need-loop-again-2 Inv-loop μ-loop
+loop-again-2 c =
+    let a = c .before .before .before in
+    let l = a .before in
+    let f = l .before in
+    let o = f .before .before in
+    let t = o .before .before in
+    let w = t .before .before .before .before .before .sweep-points .ensures in
+    let s = t .before .before .before .before .before .before .before in
+    let C = s .args .cells .now in
+    let hp = c .before .before .loop-test .taken in (
+      a .loop .inv .0,
+      omega arith,
+      subst (λ (x : List ℕ). Wrote (zeros 450) 0 x (a .loop .bytes) (a .loop .n))
+          (sym (column-skip C (s .pre .long) (w .0) (w .1) (w .2) (o .marked-columns2 .ensures) (f .marked-columns3 .ensures)
+          (t .marked-columns .ensures) refl (a .loop .p) hp (sym (c .before .bit-at .ensures) ∙ c .if1 .left))) (a .loop .inv .2),
     )
 
 returns : tie.Need-returns Inv-loop μ-loop
 unfolding forbiddenList
 returns c =
     let a = c .before in
-    let C = cellsOf (a .before .args .lines .now) in
+    let s = a .before .before .before .before .before .before .before .before .before .before .before .before .before in
+    let C = s .args .cells .now in
     let fit = pairs-short C 225 in
     let top : a .loop .p ≡ 225 = let h = a .loop .inv .1 in let k = c .loop-test .left in omega arith in
-    (gather-end 450 (λ q. entry (strictOf C q) q) (a .loop .p) 225 _ _ (a .loop .inv .2) top (omega arith), a .loop .inv .0)
+    gather-end 450 (λ q. entry (strictOf C q) q) (a .loop .p) 225 _ _ (a .loop .inv .2) top (omega arith)
 
 pub forbidden-pairs-spec : {M : Type 1} → statement M
 forbidden-pairs-spec =
@@ -90,8 +160,14 @@ forbidden-pairs-spec =
     (tie.spec
     Inv-loop
     μ-loop
+    sweep-points-requires
+    marked-columns-requires
+    marked-columns-requires-2
+    marked-columns-requires-3
+    lines-if-requires
     loop-holds
-    strict-requires
+    bit-at-requires
+    verdict-at-requires
     slice-aggregate-keep
     is-kind-requires
     number-requires
@@ -100,4 +176,8 @@ forbidden-pairs-spec =
     add-p
     loop-less
     loop-again
+    sub-p
+    add-p-2
+    loop-less-2
+    loop-again-2
     returns)

@@ -1,0 +1,3 @@
+-- What the contracts of `near` cite beside the rules.
+pub mod Places
+pub mod Windows

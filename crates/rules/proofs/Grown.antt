@@ -1,0 +1,133 @@
+-- A Two through an empty point becomes a Three when Black plays there, and no other Three goes through it. Assumes nothing.
+use mathlib.Core.Path.{_≡_, refl, sym, ap, ap₂, _∙_, fun-ext}
+use mathlib.Core.Bool.{Bool, true, false, not, _&&_, _||_, cond}
+use mathlib.Core.List.{List}
+use Prim.Native.Nat.{ℕ, zero, suc, _+_, _-_, _≤_, _<_}
+use native.Mathlib.Nat.{add-zero}
+use native.Mathlib.Numerals.{add-one}
+use native.Mathlib.Omega.{arith}
+use native.Mathlib.Decide.{ℕ-discrete}
+use lib.Dec.{T, eqb, leb, ltb, eqb·suc-suc, eqb→eq, leb→le, ltb→lt}
+use lib.ListN.{length, getD}
+use borrow.Author.Tests.{eq-eqb, ne-eqb}
+use Rattle.rules.specs.Numbers.{colourNo}
+use Rattle.rules.specs.Tools.{allBelow}
+use Rattle.rules.specs.Bit.{digit}
+use Rattle.rules.specs.Line.{Stones, inside, free, count, beside, dead, scores, pairAt, noStone, openAt, rowAt, among}
+use Rattle.rules.specs.Point.{lineNo, cellNo, lineSize}
+use Rattle.rules.specs.Grid.{stoneAt, rowOn, rowsThrough}
+use Rattle.rules.specs.Forbidden.{withBlack}
+use Rattle.rules.specs.declared.Player.{Player}
+use Rattle.rules.specs.declared.Player.the-variants.{Black, White}
+use Rattle.rules.specs.declared.RowKind.the-variants.{Two, Three}
+use Rattle.rules.proofs.Logic.{true-T, and-left, and-right, and-same, both-ways, all-elim}
+use Rattle.rules.proofs.Address.{line-here}
+use Rattle.rules.proofs.Rows.{stone-here}
+use Rattle.rules.proofs.Changes.{stone-on}
+
+-- ---- cell c is one of a window's five, once
+
+hitOf : ℕ → ℕ → ℕ → ℕ
+hitOf i c a = digit (eqb (i + a) c)
+
+one-hit : (i c : ℕ) → i ≤ c → c < i + 5 → hitOf i c 0 + hitOf i c 1 + hitOf i c 2 + hitOf i c 3 + hitOf i c 4 ≡ 1
+unfolding hitOf allBelow
+one-hit i c l h =
+    simp moved (eqb→eq (hits (c - i)) 1 (all-elim 5 (λ k. eqb (hits k) 1) tt (c - i) (omega arith)))
+  where
+    hits : ℕ → ℕ
+    hits k = digit (eqb 0 k) + digit (eqb 1 k) + digit (eqb 2 k) + digit (eqb 3 k) + digit (eqb 4 k)
+
+    moved : (a : ℕ) → eqb (i + a) c ≡ eqb a (c - i)
+    moved a =
+        both-ways (eqb (i + a) c) (eqb a (c - i))
+        (λ t. let e : i + a ≡ c = eqb→eq (i + a) c t in true-T (eq-eqb a (c - i) (omega arith)))
+        (λ t. let e : a ≡ c - i = eqb→eq a (c - i) t in true-T (eq-eqb (i + a) c (omega arith)))
+
+-- ---- one line, before and after a stone more at cell c
+
+module _ (size : ℕ) (own own′ other : Stones) (c : ℕ) (empty : own c ≡ false) (stone : own′ c ≡ true)
+    (same : (i : ℕ) → (i ≡ c → ⊥) → own′ i ≡ own i) where
+  cell-grown : (i : ℕ) → digit (own′ i) ≡ digit (own i) + digit (eqb i c)
+  cell-grown i = go (ℕ-discrete i c)
+    where
+      go : Dec (i ≡ c) → digit (own′ i) ≡ digit (own i) + digit (eqb i c)
+      go (yes e) = rw (eq-eqb i c e, ap own′ e ∙ stone, ap own e ∙ empty)
+      go (no n) = rw (ne-eqb i c n, same i n) (omega arith)
+
+  -- a window with the cell holds one stone more
+  count-grown : (i : ℕ) → i ≤ c → c < i + 5 → count own′ i ≡ count own i + 1
+  unfolding count hitOf
+  count-grown i l h =
+      let first : digit (eqb (i + 0) c) ≡ digit (eqb i c) = ap (λ (x : ℕ). digit (eqb x c)) (add-zero i) in
+      let one = one-hit i c l h in
+      omega (arith, cell-grown i, cell-grown (i + 1), cell-grown (i + 2), cell-grown (i + 3), cell-grown (i + 4))
+
+  -- the cells beside it are as before
+  beside-grown : (i : ℕ) → i ≤ c → c < i + 5 → beside own′ i ≡ beside own i
+  unfolding beside
+  beside-grown zero l h = same (0 + 5) (λ q. omega arith)
+  beside-grown (suc i) l h =
+      ap₂ (λ (a b : Bool). leb 1 (suc i) && a || b) (same (suc i - 1) (λ q. omega arith)) (same (suc i + 5) (λ q. omega arith))
+
+  -- so it scores one more
+  scores-grown : (n i : ℕ) → i ≤ c → c < i + 5 → scores true size own other n i ≡ scores true size own′ other (suc n) i
+  unfolding scores dead
+  scores-grown n i l h =
+      ap₂ (λ (b q : Bool). inside size i && not (not (free other i) || b) && q) (sym (beside-grown i l h))
+      (sym (ap (λ (k : ℕ). eqb k (suc n)) (count-grown i l h ∙ add-one (count own i)) ∙ eqb·suc-suc (count own i) n))
+
+  -- the cell is one of the four that both windows of a Two or a Three share
+  row-grown : (j : ℕ) → j ≤ c → c < j + 4 → rowAt true size own other Two j ≡ rowAt true size own′ other Three j
+  unfolding rowAt openAt noStone pairAt
+  row-grown j l h =
+      ap₂ (λ (a b : Bool). a && (not b && not (other (j + 4)))) (pair j l h) (sym (same (j + 4) (λ q. omega arith)))
+    where
+      pair : (j : ℕ) → j ≤ c → c < j + 4 → pairAt (scores true size own other 2) j ≡ pairAt (scores true size own′ other 3) j
+      pair zero l h = refl
+      pair (suc j) l h =
+          ap₂ (λ (a b : Bool). leb 1 (suc j) && a && b) (scores-grown 2 (suc j - 1) (omega arith) (omega arith))
+          (scores-grown 2 (suc j) l (omega arith))
+
+-- ---- the line through p in direction d
+
+module _ (cells : List ℕ) (p d : ℕ) (long : length cells ≡ 225) (hp : p < 225) (hd : d < 4) (none : getD cells p 0 ≡ 0) where
+  cell-empty : (r : Player) → stoneAt r cells d (lineNo d p) (cellNo d p) ≡ eqb 0 (colourNo r)
+  cell-empty r = stone-here r cells d p hd hp ∙ ap (λ (x : ℕ). eqb x (colourNo r)) none
+
+  stones : (r : Player) (j : ℕ)
+      → stoneAt r (withBlack cells p) d (lineNo d p) j ≡ cond (eqb j (cellNo d p)) (eqb 1 (colourNo r)) (stoneAt r cells d (lineNo d p) j)
+  stones r j = sym (stone-on r cells d (lineNo d p) p 1 hd (line-here d p hd hp) long hp refl j)
+
+  white-same : stoneAt White (withBlack cells p) d (lineNo d p) ≡ stoneAt White cells d (lineNo d p)
+  white-same = fun-ext (λ j. stones White j ∙ go j (ℕ-discrete j (cellNo d p)))
+    where
+      go : (j : ℕ) → Dec (j ≡ cellNo d p)
+          → cond (eqb j (cellNo d p)) (eqb 1 (colourNo White)) (stoneAt White cells d (lineNo d p) j)
+          ≡ stoneAt White cells d (lineNo d p) j
+      go j (yes e) = rw (eq-eqb j (cellNo d p) e) (sym (ap (stoneAt White cells d (lineNo d p)) e ∙ cell-empty White))
+      go j (no n) = rw (ne-eqb j (cellNo d p) n)
+
+  black-there : stoneAt Black (withBlack cells p) d (lineNo d p) (cellNo d p) ≡ true
+  black-there = stones Black (cellNo d p) ∙ rw (eq-eqb (cellNo d p) (cellNo d p) refl)
+
+  black-same : (j : ℕ) → (j ≡ cellNo d p → ⊥) → stoneAt Black (withBlack cells p) d (lineNo d p) j ≡ stoneAt Black cells d (lineNo d p) j
+  black-same j n = stones Black j ∙ rw (ne-eqb j (cellNo d p) n)
+
+  row-through : (j : ℕ) → T (among 4 j (cellNo d p))
+      → rowOn Black Two cells d (lineNo d p) j ≡ rowOn Black Three (withBlack cells p) d (lineNo d p) j
+  unfolding among rowOn
+  row-through j t =
+      let l : j ≤ cellNo d p = leb→le j (cellNo d p) (and-left (leb j (cellNo d p)) (ltb (cellNo d p) (j + 4)) t) in
+      let h : cellNo d p < j + 4 = ltb→lt (cellNo d p) (j + 4) (and-right (leb j (cellNo d p)) (ltb (cellNo d p) (j + 4)) t) in
+      row-grown (lineSize d (lineNo d p)) (stoneAt Black cells d (lineNo d p)) (stoneAt Black (withBlack cells p) d (lineNo d p))
+      (stoneAt White cells d (lineNo d p)) (cellNo d p) (cell-empty Black) black-there black-same j l h
+      ∙ ap (λ (w : Stones). rowAt true (lineSize d (lineNo d p)) (stoneAt Black (withBlack cells p) d (lineNo d p)) w Three j)
+      (sym white-same)
+
+pub two-three : (cells : List ℕ) (p d j : ℕ) → length cells ≡ 225 → p < 225 → d < 4 → getD cells p 0 ≡ 0
+    → rowsThrough Black Two cells p d j ≡ rowsThrough Black Three (withBlack cells p) p d j
+unfolding rowsThrough
+two-three cells p d j long hp hd none =
+    and-same (among 4 j (cellNo d p)) (rowOn Black Two cells d (lineNo d p) j) (rowOn Black Three (withBlack cells p) d (lineNo d p) j)
+    (row-through cells p d long hp hd none j)
