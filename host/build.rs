@@ -22,24 +22,24 @@ fn main() {
 }
 
 fn find() -> Result<PathBuf, String> {
+    if let Some(path) = env::var_os("RENJU_ARCHIVE") {
+        return named(PathBuf::from(path));
+    }
     let arch = variable("CARGO_CFG_TARGET_ARCH")?;
     let os = variable("CARGO_CFG_TARGET_OS")?;
     if arch != "x86_64" || os != "linux" {
         return Err(format!(
-            "the target is {arch}, {os}, but the archive {FILE} is for x86-64 Linux"
+            "the target is {arch}, {os}, but `rt staticlib` writes {FILE} for x86-64 Linux"
         ));
     }
-    match env::var_os("RENJU_ARCHIVE") {
-        Some(path) => named(PathBuf::from(path)),
-        None => own(&Path::new(&variable("CARGO_MANIFEST_DIR")?).join("..")),
-    }
+    own(&Path::new(&variable("CARGO_MANIFEST_DIR")?).join(".."))
 }
 
 fn variable(name: &str) -> Result<String, String> {
     env::var(name).map_err(|error| format!("{name}: {error}"))
 }
 
-/// The archive that `RENJU_ARCHIVE` names: the caller answers for its age.
+/// The archive that `RENJU_ARCHIVE` names: the caller answers for its age and for its processor.
 fn named(archive: PathBuf) -> Result<PathBuf, String> {
     let shown = archive.display();
     if !archive.is_file() {

@@ -6,11 +6,8 @@
 use std::env;
 use std::process::ExitCode;
 
-use runs::timing::suite::{self, Settings};
+use runs::timing::suite::{self, SEED, Settings};
 use runs::timing::{machine, table};
-
-/// The seed where none is given.
-const SEED: u64 = 20_261_115;
 
 /// What the arguments ask for.
 struct Asked {

@@ -7,6 +7,9 @@ use super::rows::{Changes, Form, Lists, Texts, Verdicts};
 use super::sets::{self, Set};
 use super::table::Row;
 
+/// The seed where none is given.
+pub const SEED: u64 = 20_261_115;
+
 /// How much is asked. No part of a set is larger than the set.
 #[derive(Debug, Clone, Copy)]
 pub struct Settings {

@@ -1,0 +1,79 @@
+//! Asks each question of the benchmark once, of the original or of the host interface, for a
+//! counter of instructions to follow: `once list|strict 8|20|40|80|nested original|ours`.
+//!
+//! `valgrind --tool=callgrind --toggle-collect='once::asked' once list 40 ours`, then the total over
+//! the number of questions that it prints. Exit status 2 for an argument that is not understood.
+
+use std::env;
+use std::process::ExitCode;
+
+use runs::timing::race::Race;
+use runs::timing::rows::{Lists, Verdicts};
+use runs::timing::sets::{self, Set};
+use runs::timing::suite::{SEED, Settings};
+
+#[derive(Clone, Copy)]
+enum Side {
+    Original,
+    Ours,
+}
+
+fn main() -> ExitCode {
+    let words: Vec<String> = env::args().skip(1).collect();
+    let words: Vec<&str> = words.iter().map(String::as_str).collect();
+    let [question, set, side] = words[..] else {
+        return usage();
+    };
+    let Some(side) = side_of(side) else {
+        return usage();
+    };
+    let settings = Settings::usual(SEED);
+    let Some(mut set) = set_of(set, &settings) else {
+        return usage();
+    };
+    let asked = match question {
+        "list" => asked(&mut Lists::new(&set.boards), side),
+        "strict" => {
+            set.boards.truncate(settings.by_point);
+            asked(&mut Verdicts::new(&set.boards), side)
+        }
+        _ => return usage(),
+    };
+    println!("{asked} questions");
+    ExitCode::SUCCESS
+}
+
+fn usage() -> ExitCode {
+    eprintln!("usage: once list|strict 8|20|40|80|nested original|ours");
+    ExitCode::from(2)
+}
+
+fn side_of(word: &str) -> Option<Side> {
+    match word {
+        "original" => Some(Side::Original),
+        "ours" => Some(Side::Ours),
+        _ => None,
+    }
+}
+
+/// The boards of the benchmark's row.
+fn set_of(word: &str, settings: &Settings) -> Option<Set> {
+    if word == "nested" {
+        return Some(sets::nested(settings.seed, settings.nested));
+    }
+    let stones = word.parse().ok()?;
+    let known = sets::STONES.contains(&stones);
+    known.then(|| sets::games(settings.seed, stones, settings.games))
+}
+
+/// What the counter follows: each question once.
+#[inline(never)]
+fn asked<R: Race>(race: &mut R, side: Side) -> usize {
+    for question in 0..race.count() {
+        match side {
+            Side::Original => race.original(question, 1),
+            Side::Ours => race.ours(question, 1),
+        }
+    }
+    race.count()
+}
