@@ -16,26 +16,23 @@ use Rattle.rules.specs.Refusals.{colourRefusal, kindRefusal}
 use Rattle.rules.specs.Answers.{stoneAnswer}
 use Rattle.rules.specs.declared.answer.StoneAnswer.the-variants as stone
 use Rattle.rules.specs.Tools.{allBelow}
-use Rattle.rules.specs.Bit.{maskOf}
-use Rattle.rules.specs.Grid.{Change, play, rowsThrough, put, remove}
+use Rattle.rules.specs.Grid.{Change, play, put, remove}
 use Rattle.rules.specs.Views.{turn, undo, turnCells}
 use Rattle.rules.specs.declared.Player.{Player}
 use Rattle.rules.specs.declared.Player.the-variants.{Black, White}
-use Rattle.rules.specs.declared.RowKind.{RowKind}
 use Rattle.rules.proofs.Logic.{T-true, true-T, decide, and-left, and-right, all-elim}
 use Rattle.rules.proofs.Refusals.{first-none, none-first, passed, pass, given}
-use Rattle.rules.proofs.Lists.{length-tab, getD-tab, tab-cong}
+use Rattle.rules.proofs.Lists.{length-tab, getD-tab}
 use Rattle.lent.specs.Lists.{zeros, listRefusal, listOut}
 use Rattle.point.specs.Points.{codeRefusal}
 use Rattle.point.proofs.Refused.{code-in}
-use Rattle.grid.specs.Lines.{cellsOf, linesOf, Sound, isSound, writeOn, playLines, startsIn, startsOn}
+use Rattle.grid.specs.Lines.{cellsOf, linesOf, Sound, isSound, writeOn, playLines}
 use Rattle.grid.proofs.Lines.{Cells, lines-zeros, cells-lines-zeros, sound-zeros}
 use Rattle.grid.proofs.Lines.{length-cellsOf, play-lines, play-sound, play-cells}
 use Rattle.grid.proofs.Lines.{cells-zeros, cells-set, cells-linesOf, sound-linesOf, play-ok, colour-small}
 use Rattle.grid.proofs.Filled.{test-sound, sound-test}
-use Rattle.grid.proofs.RowStarts.{starts-in}
 use Rattle.board.specs.Boards.{cells, boardOf, movesCells, stonesCells, puts, boardRefusal, cellsRefusal, refusalAt}
-use Rattle.board.specs.Boards.{refusalFor, rowsOnRefusal, startsOf}
+use Rattle.board.specs.Boards.{refusalFor, rowsOnRefusal}
 use Rattle.board.specs.Answers.{boardAnswer, linesAnswer, startsAnswer}
 use Rattle.board.specs.declared.board.Board.{Board}
 use Rattle.board.specs.declared.answer.BoardAnswer.{BoardAnswer}
@@ -205,11 +202,3 @@ pub puts-twice : (a b : List Change) → playLines b (playLines a (zeros 144)) �
 puts-twice a b =
     play-lines b (playLines a (zeros 144)) (play-sound a (zeros 144) sound-zeros)
     ∙ ap (λ (x : List ℕ). linesOf (play b x)) (play-cells a (zeros 144) sound-zeros ∙ ap (play a) cells-lines-zeros)
-
--- ---- the starts of rows
-
-pub starts-sound : (r : Player) (k : RowKind) (l : List ℕ) (p : ℕ) → Sound l → p < 225
-    → startsOn l p r k ≡ startsOf r k (cellsOf l) p
-unfolding startsOn startsOf
-starts-sound r k l p s hp =
-    tab-cong 4 (startsIn l p r k) (λ d. maskOf 16 (rowsThrough r k (cellsOf l) p d)) (λ d hd. starts-in r k l p d s hd hp)

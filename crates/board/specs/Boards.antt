@@ -6,12 +6,10 @@ use lib.Dec.{eqb, leb, ltb}
 use lib.ListN.{length, getD}
 use Rattle.rules.specs.Numbers.{opponentOf}
 use Rattle.rules.specs.Refusals.{first, unless, colourRefusal, kindRefusal}
-use Rattle.rules.specs.Tools.{allBelow, tab}
-use Rattle.rules.specs.Bit.{maskOf}
-use Rattle.rules.specs.Grid.{Change, Put, play, rowsThrough}
+use Rattle.rules.specs.Tools.{allBelow}
+use Rattle.rules.specs.Grid.{Change, Put, play}
 use Rattle.rules.specs.declared.Player.{Player}
 use Rattle.rules.specs.declared.Player.the-variants.{Black, White}
-use Rattle.rules.specs.declared.RowKind.{RowKind}
 use Rattle.lent.specs.Lists.{zeros}
 use Rattle.point.specs.Points.{codeRefusal}
 use Rattle.grid.specs.Lines.{cellsOf, linesOf, isSound}
@@ -38,12 +36,6 @@ movesCells moves = play (puts true Black moves) (zeros 225)
 -- "Stones: two comma lists, black then white"
 unfoldable pub stonesCells : List ℕ → List ℕ → List ℕ
 stonesCells blacks whites = play (puts false White whites) (play (puts false Black blacks) (zeros 225))
-
--- ---- what is read off a board
-
--- the starts of the player's rows of the kind through p, a mask for each direction
-unfoldable pub startsOf : Player → RowKind → List ℕ → ℕ → List ℕ
-startsOf r k cells p = tab 4 (λ d. maskOf 16 (rowsThrough r k cells p d))
 
 -- ---- refusals, in section 2's order: 9, 8, 12
 

@@ -28,13 +28,13 @@ ghost use lib.ListN.{getD};
 ghost use Rattle.rules.specs.Numbers.{playerOf, kindOf};
 ghost use Rattle.rules.specs.Refusals.{first};
 ghost use Rattle.rules.specs.Answers.{numberAnswer, stoneAnswer};
-ghost use Rattle.rules.specs.Grid.{put, remove};
+ghost use Rattle.rules.specs.Grid.{put, remove, startMasks, rowsThrough};
 ghost use Rattle.rules.specs.Views.{turnCells};
 ghost use Rattle.lent.specs.Lists.{zeros, listRefusal, listOut};
 ghost use Rattle.point.specs.Points.{viewRefusal};
 ghost use Rattle.board.specs.Answers.{boardAnswer, startsAnswer};
 ghost use Rattle.board.specs.Boards.{cells, boardOf, boardRefusal, refusalAt, refusalFor, rowsOnRefusal};
-ghost use Rattle.board.specs.Boards.{cellsRefusal, codesRefusal, movesCells, stonesCells, startsOf};
+ghost use Rattle.board.specs.Boards.{cellsRefusal, codesRefusal, movesCells, stonesCells};
 
 pub struct Board {
     pub lines: [u16; 144],
@@ -144,7 +144,7 @@ impl Board {
     // Where the colour's rows of a kind through a point start, a mask for each direction.
     pub fn row_starts_on(self, code: u8, colour: u8, kind: u8) -> StartsAnswer
         ensures { λ r. ⌜ r ≡ startsAnswer (rowsOnRefusal self code colour kind)
-            (startsOf (playerOf colour) (kindOf kind) (cells self) code) ⌝ }
+            (startMasks (rowsThrough (playerOf colour) (kindOf kind) (cells self) code)) ⌝ }
     {
         let lines = self.lines;
         let starts = grid::row_starts_on(&lines, code, Player::of(colour), RowKind::of(kind));

@@ -12,11 +12,11 @@ use Rattle.rules.specs.Numbers.{isBlack, opponentOf}
 use Rattle.rules.specs.Bit.{bit, maskOf}
 use Rattle.rules.specs.Line.{Stones, rowAt, through}
 use Rattle.rules.specs.Point.{lineNo, cellNo, lineSize, stored, storedAt, keyAt, keySize}
-use Rattle.rules.specs.Grid.{stoneAt, rowOn, rowsThrough}
+use Rattle.rules.specs.Grid.{stoneAt, startMasks, rowOn, rowsThrough}
 use Rattle.rules.specs.declared.Player.{Player}
 use Rattle.rules.specs.declared.RowKind.{RowKind}
 use Rattle.rules.proofs.Logic.{true-T, decide, not-intro, not-false, and-intro, and-flip}
-use Rattle.rules.proofs.Lists.{getD-tab}
+use Rattle.rules.proofs.Lists.{getD-tab, tab-cong}
 use Rattle.rules.proofs.Bits.{mask-cong, bits-of, mask-none}
 use Rattle.rules.proofs.Address.{line-here, stored-long}
 use Rattle.rules.proofs.Windows.{row-inside}
@@ -66,6 +66,11 @@ starts-in r k l p d s hd hp = go (decide (hasPlace d p))
         (ap (λ (b : Bool). b && through k (cellNo d p) j) (shown-rows r k l p d j s (line-at d p hd (true-T t)))
         ∙ and-flip (rowOn r k (cellsOf l) d (lineNo d p) j) (through k (cellNo d p) j))))
     go (inr t) = rw t (sym (mask-none 16 (rowsThrough r k (cellsOf l) p d) (λ j h. none-short r k (cellsOf l) p d hd hp t j)))
+
+pub starts-masks : (r : Player) (k : RowKind) (l : List ℕ) (p : ℕ) → Sound l → p < 225
+    → startsOn l p r k ≡ startMasks (rowsThrough r k (cellsOf l) p)
+unfolding startsOn startMasks
+starts-masks r k l p s hp = tab-cong 4 _ _ (λ d hd. starts-in r k l p d s hd hp)
 
 -- its bits are the tests of the rules
 pub starts-bits : (r : Player) (k : RowKind) (l : List ℕ) (p d : ℕ) → Sound l → d < 4 → p < 225

@@ -2,10 +2,10 @@
 // name is written, and below it the listing of its text.
 use display::LengthAnswer;
 use libc::STDIN_FILENO;
+use libc::STDOUT_FILENO;
 use records::byte_at;
 use records::line_at;
 use records::next_line;
-use records::say;
 use report::write_listing;
 use text::head;
 use text::tail;
@@ -16,7 +16,7 @@ fn main() {
     let mut cases = io::large_buffer();
     let n = io::read_full(STDIN_FILENO, &mut cases);
     if n == cases.len() {
-        say(b"more than there is room for\n");
+        io::write_all(STDOUT_FILENO, b"more than there is room for\n");
         return;
     }
     list_cases(&cases[..n]);
@@ -26,8 +26,8 @@ fn list_cases(cases: &[u8]) {
     let mut at = 0;
     while at < cases.len() {
         let end = case_end(cases, at);
-        say(line_at(cases, at));
-        say(b"\n");
+        io::write_all(STDOUT_FILENO, line_at(cases, at));
+        io::write_all(STDOUT_FILENO, b"\n");
         list(tail(head(cases, end), next_line(cases, at)));
         at = end;
     }
@@ -59,8 +59,12 @@ fn is_name(cases: &[u8], at: usize) -> bool {
 fn list(text: &[u8]) {
     let mut out = [0u8; 4096];
     match write_listing(text, &mut out) {
-        LengthAnswer::Is(n) => say(head(&out, n)),
+        LengthAnswer::Is(n) => {
+            io::write_all(STDOUT_FILENO, head(&out, n));
+        }
         // 13, which does not arise: no listing is longer than 3,840 bytes
-        LengthAnswer::Refused(_) => say(b"too long\n"),
+        LengthAnswer::Refused(_) => {
+            io::write_all(STDOUT_FILENO, b"too long\n");
+        }
     }
 }

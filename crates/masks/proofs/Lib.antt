@@ -1,3 +1,4 @@
 -- The laws of the masks of a line, for other crates to cite.
 pub mod Windows
 pub mod Lowest
+pub mod Held

@@ -10,10 +10,11 @@ use lib.Count.{trailingZeros, under}
 use lib.Pow.{pow-pos, ones-sub-lt}
 use Rattle.rules.specs.Tools.{anyBelow}
 use Rattle.rules.specs.Bit.{bit, digit, maskOf}
-use Rattle.rules.proofs.Logic.{T-true, no-true, not-intro, not-elim, both-ways, and-left, and-right, and-intro}
+use Rattle.rules.specs.Forbidden.{apart}
+use Rattle.rules.proofs.Logic.{T-true, true-T, no-true, not-intro, not-elim, both-ways, and-left, and-right, and-intro}
 use Rattle.rules.proofs.Logic.{any-elim, any-intro}
 use Rattle.rules.proofs.Bits.{bit-suc, bit-none, bit-ext, low-bit, bit-and, bit-not, bit-shl-in, bit-ones, mask-ext, mask-any}
-use Rattle.rules.proofs.More.{apartIn, apartIn-elim, apartIn-intro}
+use Rattle.rules.proofs.More.{apart-elim, apart-intro}
 
 -- ---- the lowest set bit
 
@@ -59,6 +60,14 @@ low-lt w n h g =
 pub low-le : (w n j : ℕ) → T (bit n j) → trailingZeros w n ≤ j
 low-le w n j e = le-of-suc-le-suc (lt-of-not-le (λ h. no-true (sym (low-below w n j h) ∙ T-true e)))
 
+-- it is the one below which none is set
+pub low-is : (w n k : ℕ) → k < w → bit n k ≡ true → ((i : ℕ) → i < k → bit n i ≡ false) → trailingZeros w n ≡ k
+low-is w n k h e none =
+    let a : trailingZeros w n ≤ k = low-le w n k (true-T e) in
+    let b : k ≤ trailingZeros w n = le-of-suc-le-suc (lt-of-not-le (λ l.
+    no-true (sym (none (trailingZeros w n) l) ∙ low-set w n (omega arith)))) in
+    omega arith
+
 -- ---- two starts two or more apart: one is left past the lowest and the next
 
 left : ℕ → ℕ → ℕ → Bool
@@ -75,13 +84,13 @@ left-over w s t h =
 
 -- t is any place that no start lies below, and itself a start where one lies two or more past it
 pub apart-past : (w s t : ℕ) → s < 2 ^ w → ((j : ℕ) → T (bit s j) → t ≤ j) → ((j : ℕ) → j < w → t + 2 ≤ j → T (bit s j) → T (bit s t))
-    → not (eqb (bitAnd s ((2 ^ w - 1) - (3 * 2 ^ t) % 2 ^ w)) 0) ≡ apartIn w (bit s)
+    → not (eqb (bitAnd s ((2 ^ w - 1) - (3 * 2 ^ t) % 2 ^ w)) 0) ≡ apart w (bit s)
 unfolding left
 apart-past w s t h low on =
     ap (λ (x : ℕ). not (eqb x 0)) (left-over w s t h) ∙ mask-any w (left s t)
-    ∙ both-ways (anyBelow w (left s t)) (apartIn w (bit s)) far near
+    ∙ both-ways (anyBelow w (left s t)) (apart w (bit s)) far near
   where
-    far : T (anyBelow w (left s t)) → T (apartIn w (bit s))
+    far : T (anyBelow w (left s t)) → T (apart w (bit s))
     far u =
         let a = any-elim w (left s t) u in
         let j = a .0 in
@@ -90,11 +99,11 @@ apart-past w s t h low on =
         let gap : t + 2 ≤ j = le-of-suc-le-suc (lt-of-not-le (λ k.
         not-elim (leb t j && ltb (j - t) 2) (and-right (bit s j) (not (leb t j && ltb (j - t) 2)) (a .2))
         (and-intro (leb t j) (ltb (j - t) 2) (le→leb t j le) (lt→ltb (j - t) 2 (omega arith))))) in
-        apartIn-intro w (bit s) (record { j = t; k = j; far = gap; k-lt = a .1; here = on j (a .1) gap is; there = is })
+        apart-intro w (bit s) (record { j = t; k = j; far = gap; k-lt = a .1; here = on j (a .1) gap is; there = is })
 
-    near : T (apartIn w (bit s)) → T (anyBelow w (left s t))
+    near : T (apart w (bit s)) → T (anyBelow w (left s t))
     near u =
-        let p = apartIn-elim w (bit s) u in
+        let p = apart-elim w (bit s) u in
         let le : t ≤ p .j = low (p .j) (p .here) in
         let f = p .far in
         any-intro w (left s t) (p .k) (p .k-lt)

@@ -197,25 +197,6 @@ pub fours-bit : (a b c d e j : ℕ) → fours5 (bit a j) (bit b j) (bit c j) (bi
 unfolding sumAt bit
 fours-bit a b c d e j = table5 fours5 (λ a b c d e. bit (count5 a b c d e) 2) tt (bit a j) (bit b j) (bit c j) (bit d j) (bit e j)
 
--- a number of stones, up to five, by two of its digits
-pub two-digits : (own : Stones) (j : ℕ) → (bit (count own j) 1 && not (bit (count own j) 0)) ≡ eqb (count own j) 2
-unfolding count bit
-two-digits own j =
-    table5 (λ a b c d e. bit (count5 a b c d e) 1 && not (bit (count5 a b c d e) 0)) (λ a b c d e. eqb (count5 a b c d e) 2) tt
-    (own j) (own (j + 1)) (own (j + 2)) (own (j + 3)) (own (j + 4))
-
-pub three-digits : (own : Stones) (j : ℕ) → (bit (count own j) 1 && bit (count own j) 0) ≡ eqb (count own j) 3
-unfolding count bit
-three-digits own j =
-    table5 (λ a b c d e. bit (count5 a b c d e) 1 && bit (count5 a b c d e) 0) (λ a b c d e. eqb (count5 a b c d e) 3) tt
-    (own j) (own (j + 1)) (own (j + 2)) (own (j + 3)) (own (j + 4))
-
-pub four-digits : (own : Stones) (j : ℕ) → (bit (count own j) 2 && not (bit (count own j) 0)) ≡ eqb (count own j) 4
-unfolding count bit
-four-digits own j =
-    table5 (λ a b c d e. bit (count5 a b c d e) 2 && not (bit (count5 a b c d e) 0)) (λ a b c d e. eqb (count5 a b c d e) 4) tt
-    (own j) (own (j + 1)) (own (j + 2)) (own (j + 3)) (own (j + 4))
-
 -- the five cells of each window tallied: its stones
 pub tallied-count : (w my ones twos fours : ℕ) → Tallied w (sumAt my (my / 2) (my / 4) (my / 8) (my / 16)) ones twos fours
     → Tallied w (count (bit my)) ones twos fours

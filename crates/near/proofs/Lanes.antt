@@ -1,209 +1,273 @@
--- The four lanes of 16 places, as the code shifts and joins them, and the steps from place to place. Assumes nothing.
+-- The rows of the 64 places are the rows of the four lines: no window reaches from one line into the next, since each line is followed by a
+-- place that is blocked and has no stone. Assumes nothing.
 use mathlib.Core.Path.{_≡_, refl, sym, ap, ap₂, _∙_}
-use mathlib.Core.Bool.{Bool, true, false, not, _&&_, _||_, cond, Bool·beq, or-false, and-true, and-false}
+use mathlib.Core.Logic.{_⊎_, inl, inr}
+use mathlib.Core.Bool.{Bool, true, false, not, _&&_, _||_, and-false}
 use mathlib.Core.List.{List}
 use Prim.Native.Nat.{ℕ, zero, suc, _+_, _-_, _*_, _/_, _%_, _^_, _≤_, _<_}
-use native.Mathlib.Nat.{mod-lt, add-comm, mul-le-mul}
 use native.Mathlib.Omega.{arith}
-use lib.Dec.{eqb, leb, ltb, lit<}
+use lib.Dec.{T, leb, ltb, eqb}
 use lib.ListN.{getD}
-use lib.Bits.{bitAnd, bitOr, and-mask, or-lt}
-use borrow.Author.Tests.{lt-ltb, le-leb, eq-eqb, ne-eqb, leb-true, leb-false, ltb-true, ltb-false}
-use Rattle.rules.specs.Tools.{allBelow}
+use lib.Bits.{bitAnd, bitOr}
+use borrow.Author.Tests.{le-leb, lt-leb, lt-ltb, le-ltb, leb-true, leb-false}
+use Rattle.rules.specs.Tools.{anyBelow, tab}
 use Rattle.rules.specs.Bit.{bit, maskOf}
-use Rattle.rules.specs.Point.{byDirection, lineNo, cellNo, lineSize}
-use Rattle.rules.proofs.Logic.{all-elim, not-leb}
-use Rattle.rules.proofs.Tables.{table3, beq-eq}
-use Rattle.rules.proofs.Bits.{bit-or, bit-mod, bit-shr, bit-shl-in, bit-ones, bit-above, bit-mask, mask-lt, mask-ext, mask-cong}
-use Rattle.near.specs.Places.{isCell, nearBlack, nearBlocked, stepOf}
+use Rattle.rules.specs.Line.{Stones, inside, free, count, beside, dead, scores, holds, openAt, overAt, rowAt, span, through}
+use Rattle.rules.specs.Point.{lineNo, cellNo, lineSize}
+use Rattle.rules.specs.Grid.{startMasks}
+use Rattle.rules.specs.declared.RowKind.{RowKind}
+use Rattle.rules.proofs.Logic.{decide, no-true, T-true, not-intro, not-elim, not-false, and-left, and-same, and-flip, not-leb}
+use Rattle.rules.proofs.Tables.{table2}
+use Rattle.rules.proofs.Bits.{bit-and, bit-mask, mask-and, mask-or, mask-not, mask-cong}
+use Rattle.rules.proofs.Lists.{tab-cong}
+use Rattle.rules.proofs.Address.{size-le}
+use Rattle.rules.proofs.Windows.{Window, scored, free-at, row-inside, span-le}
+use Rattle.masks.proofs.Windows.{open-bit, over-bit}
+use Rattle.near.specs.Places.{placeIn, pastEnd, spotAt}
+use Rattle.near.specs.Windows.{aliveWith, freeWith, pairIn}
+use Rattle.near.specs.Rows.{stonesIn, seen}
+use Rattle.near.proofs.Places.{in-line, in-cell, reach-place}
 
--- ---- one lane
+-- four lines of at most 15 cells, laid out in two words: the own stones, and what is blocked
+pub record Laid (size : ℕ → ℕ) (own other : ℕ → Stones) (mine blocked : Stones) : Type 0 where
+  small : (d : ℕ) → size d ≤ 15
+  mine-at : (d j : ℕ) → d < 4 → j < 16 → mine (16 * d + j) ≡ own d j
+  block-at : (d j : ℕ) → d < 4 → j < 16 → blocked (16 * d + j) ≡ (leb (size d) j || other d j)
+  own-in : (d j : ℕ) → size d ≤ j → own d j ≡ false
 
--- a cell's number is small for any code of eight bits, so that it can be shifted by
-cell-le : (d p : ℕ) → cellNo d p ≤ p / 15 + 14
-unfolding cellNo
-cell-le zero p = omega arith
-cell-le (suc zero) p = omega arith
-cell-le (suc (suc zero)) p = either (ltb (p / 15 + 14 - p % 15) 14)
-  where
-    either : (b : Bool) → cond b (p / 15) (p % 15) ≤ p / 15 + 14
-    either true = omega arith
-    either false = omega arith
-cell-le (suc (suc (suc d))) p = either (ltb (p / 15 + p % 15) 14)
-  where
-    either : (b : Bool) → cond b (p / 15) (14 - p % 15) ≤ p / 15 + 14
-    either true = omega arith
-    either false = omega arith
+module _ (size : ℕ → ℕ) (own other : ℕ → Stones) (mine blocked : Stones) (laid : Laid size own other mine blocked) where
+  -- ---- one window, at place 16d + j
 
-pub cell-lt : (d p : ℕ) → p < 256 → cellNo d p < 50
-cell-lt d p h = omega (arith, cell-le d p)
+  module _ (d : ℕ) (hd : d < 4) where
+    cell-mine : (k i : ℕ) → k ≡ 16 * d + i → i < 16 → mine k ≡ own d i
+    cell-mine k i e h = ap mine e ∙ laid .mine-at d i hd h
 
--- eleven bits from bit c on
-eleven : (m c : ℕ) → bitAnd (m / 2 ^ c) 2047 ≡ maskOf 11 (λ i. bit m (c + i))
-eleven m c =
-    and-mask (m / 2 ^ c) 11
-    ∙ mask-ext 11 (m / 2 ^ c % 2048) (λ i. bit m (c + i)) (mod-lt (m / 2 ^ c) (lit< tt))
-    (λ i h. bit-mod (m / 2 ^ c) 11 i h ∙ bit-shr m c i ∙ ap (bit m) (add-comm i c))
+    cell-free : (k i : ℕ) → k ≡ 16 * d + i → i < size d → blocked k ≡ other d i
+    cell-free k i e h =
+        let s = laid .small d in
+        ap blocked e ∙ laid .block-at d i hd (omega arith) ∙ ap (λ (b : Bool). b || other d i) (lt-leb (size d) i h)
 
-pub black-places : (m c : ℕ) → c < 50
-    → bitAnd ((m * 32) % 18446744073709551616 / 2 ^ c) 2047 ≡ maskOf 11 (λ i. leb 5 (c + i) && bit m (c + i - 5))
-black-places m c h =
-    eleven ((m * 32) % 18446744073709551616) c ∙ mask-cong 11 _ _ (λ i l. bit-shl-in m 5 64 (c + i) (omega arith))
+    cell-past : (k i : ℕ) → k ≡ 16 * d + i → size d ≤ i → i < 16 → blocked k ≡ true
+    cell-past k i e h l = ap blocked e ∙ laid .block-at d i hd l ∙ ap (λ (b : Bool). b || other d i) (le-leb (size d) i h)
 
--- where a line of s cells has none: before the first and past the last
-pub blocked-places : (m s c : ℕ) → c < 50
-    → bitAnd (bitOr ((bitOr m ((18446744073709551615 * 2 ^ s) % 18446744073709551616) * 32) % 18446744073709551616) 31 / 2 ^ c) 2047
-    ≡ maskOf 11 (λ i. not (leb 5 (c + i) && ltb (c + i - 5) s) || bit m (c + i - 5))
-blocked-places m s c h = eleven _ c ∙ mask-cong 11 _ _ (λ i l. at (c + i) (omega arith))
-  where
-    past : ℕ
-    past = (18446744073709551615 * 2 ^ s) % 18446744073709551616
-
-    past-bit : (j : ℕ) → j < 64 → bit past j ≡ leb s j
-    past-bit j l =
-        bit-shl-in 18446744073709551615 s 64 j l
-        ∙ ap (λ (b : Bool). leb s j && b) (bit-ones 64 (j - s) ∙ lt-ltb (j - s) 64 (omega arith)) ∙ and-true (leb s j)
-
-    at : (k : ℕ) → k < 64
-        → bit (bitOr ((bitOr m past * 32) % 18446744073709551616) 31) k ≡ (not (leb 5 k && ltb (k - 5) s) || bit m (k - 5))
-    at k l =
-        bit-or ((bitOr m past * 32) % 18446744073709551616) 31 k
-        ∙ ap₂ (λ (a b : Bool). a || b)
-        (bit-shl-in (bitOr m past) 5 64 k l
-        ∙ ap (λ (b : Bool). leb 5 k && b)
-        (bit-or m past (k - 5) ∙ ap (λ (b : Bool). bit m (k - 5) || b) (past-bit (k - 5) (omega arith))))
-        (bit-ones 5 k ∙ sym (not-leb 5 k))
-        ∙ table3 (λ x b y. (x && (b || y)) || not x) (λ x b y. not (x && not y) || b) tt (leb 5 k) (bit m (k - 5)) (leb s (k - 5))
-        ∙ ap (λ (b : Bool). not (leb 5 k && b) || bit m (k - 5)) (not-leb s (k - 5))
-
--- ---- four lanes
-
--- the lane that starts at place 16n
-lane : (m n k : ℕ) → m < 65536 → (leb (16 * n) k && bit m (k - 16 * n)) ≡ (eqb (k / 16) n && bit m (k % 16))
-lane m n k h = go (leb (16 * n) k) refl (ltb k (16 * n + 16)) refl
-  where
-    go : (a : Bool) → leb (16 * n) k ≡ a → (b : Bool) → ltb k (16 * n + 16) ≡ b
-        → (leb (16 * n) k && bit m (k - 16 * n)) ≡ (eqb (k / 16) n && bit m (k % 16))
-    go false e b f =
-        let l : k < 16 * n = leb-false (16 * n) k e in
-        ap (λ (x : Bool). x && bit m (k - 16 * n)) e
-        ∙ sym (ap (λ (x : Bool). x && bit m (k % 16)) (ne-eqb (k / 16) n (λ q. omega arith)))
-    go true e true f =
-        let l : 16 * n ≤ k = leb-true (16 * n) k e in
-        let u : k < 16 * n + 16 = ltb-true k (16 * n + 16) f in
-        ap₂ (λ (x : Bool) (i : ℕ). x && bit m i) (e ∙ sym (eq-eqb (k / 16) n (omega arith))) (omega arith)
-    go true e false f =
-        let u : 16 * n + 16 ≤ k = ltb-false k (16 * n + 16) f in
-        ap (λ (x : Bool). leb (16 * n) k && x) (bit-above m 16 (k - 16 * n) h (omega arith)) ∙ and-false (leb (16 * n) k)
-        ∙ sym (ap (λ (x : Bool). x && bit m (k % 16)) (ne-eqb (k / 16) n (λ q. omega arith)))
-
-pub four-lanes : (a b c d : ℕ) → a < 65536 → b < 65536 → c < 65536 → d < 65536
-    → bitOr (bitOr (bitOr a ((b * 65536) % 18446744073709551616)) ((c * 4294967296) % 18446744073709551616))
-    ((d * 281474976710656) % 18446744073709551616)
-    ≡ maskOf 64 (λ k. bit (byDirection (k / 16) a b c d) (k % 16))
-four-lanes a b c d ha hb hc hd =
-    mask-ext 64 _ _
-    (or-lt 64 _ _
-    (or-lt 64 _ _ (or-lt 64 a _ (omega arith) (mod-lt (b * 65536) (lit< tt))) (mod-lt (c * 4294967296) (lit< tt)))
-    (mod-lt (d * 281474976710656) (lit< tt)))
-    (λ k l.
-    bit-or _ _ k
-    ∙ ap₂ (λ (x y : Bool). x || y)
-    (bit-or _ _ k
-    ∙ ap₂ (λ (x y : Bool). x || y)
-    (bit-or _ _ k
-    ∙ ap₂ (λ (x y : Bool). x || y) (first k) (bit-shl-in b 16 64 k l ∙ lane b 1 k hb))
-    (bit-shl-in c 32 64 k l ∙ lane c 2 k hc))
-    (bit-shl-in d 48 64 k l ∙ lane d 3 k hd)
-    ∙ pick (k / 16) (omega arith) (k % 16))
-  where
-    first : (k : ℕ) → bit a k ≡ (eqb (k / 16) 0 && bit a (k % 16))
-    first k = sym (ap₂ (λ (x : Bool) (i : ℕ). x && bit a i) (le-leb 0 k (omega arith)) (omega arith)) ∙ lane a 0 k ha
-
-    pick : (q : ℕ) → q < 4 → (i : ℕ)
-        → ((eqb q 0 && bit a i || eqb q 1 && bit b i) || eqb q 2 && bit c i || eqb q 3 && bit d i) ≡ bit (byDirection q a b c d) i
-    pick zero h i = simp or-false
-    pick (suc zero) h i = simp or-false
-    pick (suc (suc zero)) h i = simp or-false
-    pick (suc (suc (suc zero))) h i = refl
-    pick (suc (suc (suc (suc q)))) h i = absurd (omega arith)
-
--- four lanes of eleven places, by a test of direction and place
-lanes-of : (f : ℕ → ℕ → Bool)
-    → maskOf 64 (λ k. bit (byDirection (k / 16) (maskOf 11 (f 0)) (maskOf 11 (f 1)) (maskOf 11 (f 2)) (maskOf 11 (f 3))) (k % 16))
-    ≡ maskOf 64 (λ k. ltb (k % 16) 11 && f (k / 16) (k % 16))
-lanes-of f = mask-cong 64 _ _ (λ k l. pick (k / 16) (omega arith) (k % 16))
-  where
-    cut : (g : ℕ → Bool) (i : ℕ) → bit (maskOf 11 g) i ≡ (ltb i 11 && g i)
-    cut g i = go (ltb i 11) refl
+    -- the place before a line's first cell is past the end of the line before it
+    first-mine : (k : ℕ) → k ≡ 16 * d → (leb 1 k && mine (k - 1)) ≡ false
+    first-mine k e = go d hd e
       where
-        go : (b : Bool) → ltb i 11 ≡ b → bit (maskOf 11 g) i ≡ (b && g i)
-        go true e = bit-mask 11 g i (ltb-true i 11 e)
-        go false e = bit-above (maskOf 11 g) 11 i (mask-lt 11 g) (ltb-false i 11 e)
+        go : (d : ℕ) → d < 4 → k ≡ 16 * d → (leb 1 k && mine (k - 1)) ≡ false
+        go zero h e = ap (λ (b : Bool). b && mine (k - 1)) (lt-leb 1 k (omega arith))
+        go (suc d) h e =
+            ap (λ (b : Bool). leb 1 k && b)
+            (ap mine (before d e) ∙ laid .mine-at d 15 (omega arith) (omega arith) ∙ laid .own-in d 15 (laid .small d))
+            ∙ and-false (leb 1 k)
+          where
+            before : (d : ℕ) → k ≡ 16 * suc d → k - 1 ≡ 16 * d + 15
+            before d e = omega arith
 
-    pick : (q : ℕ) → q < 4 → (i : ℕ)
-        → bit (byDirection q (maskOf 11 (f 0)) (maskOf 11 (f 1)) (maskOf 11 (f 2)) (maskOf 11 (f 3))) i ≡ (ltb i 11 && f q i)
-    pick zero h i = cut (f 0) i
-    pick (suc zero) h i = cut (f 1) i
-    pick (suc (suc zero)) h i = cut (f 2) i
-    pick (suc (suc (suc zero))) h i = cut (f 3) i
-    pick (suc (suc (suc (suc q)))) h i = absurd (omega arith)
+    module _ (j : ℕ) (hj : j < 16) where
+      abbrev k : ℕ
+      k = 16 * d + j
 
--- a lane fits its 16 places
-pub lane-lt : (f : ℕ → Bool) (m : ℕ) → m ≡ maskOf 11 f → m < 65536
-lane-lt f m e = omega (arith, mask-lt 11 f)
+      free-off : size d < j + 5 → free blocked k ≡ false
+      free-off h = at (decide (leb (size d) j))
+        where
+          none : (i : ℕ) → i < 5 → blocked (k + i) ≡ true → free blocked k ≡ false
+          none i l e =
+              not-false (not-intro (free blocked k) (λ t. not-elim (blocked (k + i)) (free-at blocked k i l t) (true-at e)))
+            where
+              true-at : blocked (k + i) ≡ true → T (blocked (k + i))
+              true-at e = rw e tt
 
--- ---- the places near a point, by the masks of the four lines through it
+          at : (leb (size d) j ≡ true) ⊎ (leb (size d) j ≡ false) → free blocked k ≡ false
+          at (inl e) = none 0 (omega arith) (cell-past (k + 0) j (omega arith) (leb-true (size d) j e) hj)
+          at (inr e) =
+              let l = leb-false (size d) j e in
+              let s = laid .small d in
+              none (size d - j) (omega arith) (cell-past (k + (size d - j)) (size d) (omega arith) (omega arith) (omega arith))
 
-abbrev blackLane : List ℕ → ℕ → ℕ → ℕ → Bool
-blackLane blacks p d i = leb 5 (cellNo d p + i) && bit (getD blacks d 0) (cellNo d p + i - 5)
+      free-same : free blocked k ≡ (inside (size d) j && free (other d) j)
+      unfolding inside free
+      free-same = at (decide (leb (j + 5) (size d)))
+        where
+          on : j + 5 ≤ size d → free blocked k ≡ free (other d) j
+          on h =
+              rw (
+                cell-free k j (omega arith) (omega arith),
+                cell-free (k + 1) (j + 1) (omega arith) (omega arith),
+                cell-free (k + 2) (j + 2) (omega arith) (omega arith),
+                cell-free (k + 3) (j + 3) (omega arith) (omega arith),
+                cell-free (k + 4) (j + 4) (omega arith) (omega arith),
+              )
+              refl
 
-abbrev blockedLane : List ℕ → ℕ → ℕ → ℕ → Bool
-blockedLane whites p d i =
-    not (leb 5 (cellNo d p + i) && ltb (cellNo d p + i - 5) (lineSize d (lineNo d p))) || bit (getD whites d 0) (cellNo d p + i - 5)
+          at : (leb (j + 5) (size d) ≡ true) ⊎ (leb (j + 5) (size d) ≡ false) → free blocked k ≡ (leb (j + 5) (size d) && free (other d) j)
+          at (inl e) = on (leb-true (j + 5) (size d) e) ∙ sym (ap (λ (b : Bool). b && free (other d) j) e)
+          at (inr e) = free-off (leb-false (j + 5) (size d) e) ∙ sym (ap (λ (b : Bool). b && free (other d) j) e)
 
-module _ (f : ℕ → ℕ → Bool) {a b c d r : ℕ} (ea : a ≡ maskOf 11 (f 0)) (eb : b ≡ maskOf 11 (f 1)) (ec : c ≡ maskOf 11 (f 2))
-    (ed : d ≡ maskOf 11 (f 3)) (e : r ≡ maskOf 64 (λ k. bit (byDirection (k / 16) a b c d) (k % 16))) where
-  four-of : r ≡ maskOf 64 (λ k. ltb (k % 16) 11 && f (k / 16) (k % 16))
-  four-of = e ∙ simp (ea, eb, ec, ed) (lanes-of f)
+      module _ (h : j + 5 ≤ size d) where
+        fits : j + 5 ≤ 15
+        fits = let s = laid .small d in omega arith
 
-module _ (blacks : List ℕ) (p : ℕ) where
-  pub near-black : {a b c d r : ℕ} → a ≡ maskOf 11 (blackLane blacks p 0) → b ≡ maskOf 11 (blackLane blacks p 1)
-      → c ≡ maskOf 11 (blackLane blacks p 2) → d ≡ maskOf 11 (blackLane blacks p 3)
-      → r ≡ maskOf 64 (λ k. bit (byDirection (k / 16) a b c d) (k % 16)) → r ≡ maskOf 64 (nearBlack blacks p)
-  unfolding nearBlack
-  near-black ea eb ec ed e = four-of (blackLane blacks p) ea eb ec ed e
+        count-same : count mine k ≡ count (own d) j
+        unfolding count
+        count-same =
+            let f = fits in
+            rw (
+              cell-mine k j (omega arith) (omega arith),
+              cell-mine (k + 1) (j + 1) (omega arith) (omega arith),
+              cell-mine (k + 2) (j + 2) (omega arith) (omega arith),
+              cell-mine (k + 3) (j + 3) (omega arith) (omega arith),
+              cell-mine (k + 4) (j + 4) (omega arith) (omega arith),
+            )
+            refl
 
-module _ (whites : List ℕ) (p : ℕ) where
-  pub near-blocked : {a b c d r : ℕ} → a ≡ maskOf 11 (blockedLane whites p 0) → b ≡ maskOf 11 (blockedLane whites p 1)
-      → c ≡ maskOf 11 (blockedLane whites p 2) → d ≡ maskOf 11 (blockedLane whites p 3)
-      → r ≡ maskOf 64 (λ k. bit (byDirection (k / 16) a b c d) (k % 16)) → r ≡ maskOf 64 (nearBlocked whites p)
-  unfolding nearBlocked isCell
-  near-blocked ea eb ec ed e = four-of (blockedLane whites p) ea eb ec ed e
+        beside-same : beside mine k ≡ beside (own d) j
+        unfolding beside
+        beside-same =
+            let f = fits in
+            ap₂ (λ (a b : Bool). a || b) (before j hj refl) (cell-mine (k + 5) (j + 5) (omega arith) (omega arith))
+          where
+            before : (i : ℕ) → i < 16 → i ≡ j → (leb 1 k && mine (k - 1)) ≡ (leb 1 i && own d (i - 1))
+            before zero l e = first-mine k (omega arith)
+            before (suc i) l e =
+                ap₂ (λ (a b : Bool). a && b) (le-leb 1 k (omega arith) ∙ sym (le-leb 1 (suc i) (omega arith)))
+                (cell-mine (k - 1) i (omega arith) (omega arith) ∙ ap (own d) (omega arith))
 
--- ---- the point itself
+      scores-same : (black : Bool) (n : ℕ) → aliveWith black mine blocked n k ≡ scores black (size d) (own d) (other d) n j
+      unfolding aliveWith scores dead inside
+      scores-same black n = at (decide (leb (j + 5) (size d)))
+        where
+          at : (leb (j + 5) (size d) ≡ true) ⊎ (leb (j + 5) (size d) ≡ false)
+              → (not (not (free blocked k) || black && beside mine k) && eqb (count mine k) n)
+              ≡ (leb (j + 5) (size d) && not (not (free (other d) j) || black && beside (own d) j) && eqb (count (own d) j) n)
+          at (inl e) =
+              let h = leb-true (j + 5) (size d) e in
+              rw (free-same, count-same h, beside-same h, e) refl
+          at (inr e) = rw (free-off (leb-false (j + 5) (size d) e), e) refl
 
-pub point-bits : (m : ℕ) → m < 2 ^ 64 → bitOr m 9007336695791648 ≡ maskOf 64 (λ k. bit m k || eqb (k % 16) 5)
-unfolding allBelow bit
-point-bits m h =
-    mask-ext 64 _ _ (or-lt 64 m 9007336695791648 h (lit< tt))
-    (λ k l. bit-or m 9007336695791648 k ∙ ap (λ (b : Bool). bit m k || b)
-    (beq-eq (bit 9007336695791648 k) (eqb (k % 16) 5) (all-elim 64 (λ k. Bool·beq (bit 9007336695791648 k) (eqb (k % 16) 5)) tt k l)))
+      holds-same : (n : ℕ) → freeWith mine blocked n k ≡ holds (size d) (own d) (other d) n j
+      unfolding freeWith holds inside
+      holds-same n = at (decide (leb (j + 5) (size d)))
+        where
+          at : (leb (j + 5) (size d) ≡ true) ⊎ (leb (j + 5) (size d) ≡ false)
+              → (free blocked k && eqb (count mine k) n) ≡ (leb (j + 5) (size d) && free (other d) j && eqb (count (own d) j) n)
+          at (inl e) = rw (free-same, count-same (leb-true (j + 5) (size d) e), e) refl
+          at (inr e) = rw (free-off (leb-false (j + 5) (size d) e), e) refl
 
--- ---- steps
+  -- ---- two windows: those of a mask of tests that fail at a line's last place
 
-pub step-le : (d : ℕ) → stepOf d ≤ 16
-step-le zero = omega arith
-step-le (suc zero) = omega arith
-step-le (suc (suc zero)) = omega arith
-step-le (suc (suc (suc d))) = omega arith
+  pair-same : (f : ℕ → Bool) (g : ℕ → ℕ → Bool) (m d j : ℕ) → d < 4 → j < 16 → m ≡ maskOf 64 f
+      → ((d j : ℕ) → d < 4 → j < 16 → f (16 * d + j) ≡ g d j) → ((d : ℕ) → g d 15 ≡ false)
+      → pairIn m (16 * d + j) ≡ (g d j && (leb 1 j && g d (j - 1)))
+  pair-same f g m d j hd hj e same last =
+      ap₂ (λ (a b : Bool). a && b) (at (16 * d + j) d j refl hd hj) (before d hd j hj)
+    where
+      at : (k d j : ℕ) → k ≡ 16 * d + j → d < 4 → j < 16 → bit m k ≡ g d j
+      at k d j ek hd hj =
+          ap (λ (x : ℕ). bit x k) e ∙ bit-mask 64 f k (omega arith) ∙ ap f ek ∙ same d j hd hj
 
-pub step-last : (d : ℕ) → (d ≡ 0 → ⊥) → (d ≡ 1 → ⊥) → (d ≡ 2 → ⊥) → 14 ≡ stepOf d
-step-last zero a b c = absurd (a refl)
-step-last (suc zero) a b c = absurd (b refl)
-step-last (suc (suc zero)) a b c = absurd (c refl)
-step-last (suc (suc (suc d))) a b c = refl
+      before : (d : ℕ) → d < 4 → (j : ℕ) → j < 16 → (leb 1 (16 * d + j) && bit m (16 * d + j - 1)) ≡ (leb 1 j && g d (j - 1))
+      before zero hd zero hj = refl
+      before (suc d) hd zero hj =
+          ap (λ (b : Bool). leb 1 (16 * suc d + 0) && b) (at (16 * suc d + 0 - 1) d 15 (omega arith) (omega arith) (omega arith) ∙ last d)
+          ∙ and-false (leb 1 (16 * suc d + 0))
+      before d hd (suc j) hj =
+          ap₂ (λ (a b : Bool). a && b) (le-leb 1 (16 * d + suc j) (omega arith) ∙ sym (le-leb 1 (suc j) (omega arith)))
+          (at (16 * d + suc j - 1) d j (omega arith) hd (omega arith) ∙ ap (g d) (omega arith))
 
--- what the code adds up stays small
-pub steps-le : (s d i : ℕ) → s ≡ stepOf d → i < 16 → s * i ≤ 240
-steps-le s d i e h = rw e (mul-le-mul {n₂ = 16} {m₂ = 15} (step-le d) (omega arith))
+  -- no window starts at a line's last place
+  scores-last : (black : Bool) (n d : ℕ) → scores black (size d) (own d) (other d) n 15 ≡ false
+  unfolding scores inside
+  scores-last black n d = let s = laid .small d in rw (lt-leb (15 + 5) (size d) (omega arith)) refl
+
+  holds-last : (n d : ℕ) → holds (size d) (own d) (other d) n 15 ≡ false
+  unfolding holds inside
+  holds-last n d = let s = laid .small d in rw (lt-leb (15 + 5) (size d) (omega arith)) refl
+
+  -- ---- rows
+
+  pub scored-row : (black : Bool) (n d j : ℕ) → d < 4 → j < 16
+      → aliveWith black mine blocked n (16 * d + j) ≡ scores black (size d) (own d) (other d) n j
+  scored-row black n d j hd hj = scores-same d hd j hj black n
+
+  pub over-row : (n m d j : ℕ) → d < 4 → j < 16 → m ≡ maskOf 64 (freeWith mine blocked n)
+      → pairIn m (16 * d + j) ≡ overAt (size d) (own d) (other d) n j
+  over-row n m d j hd hj e =
+      pair-same (freeWith mine blocked n) (λ d. holds (size d) (own d) (other d) n) m d j hd hj e (λ d j hd hj. holds-same d hd j hj n)
+      (holds-last n)
+      ∙ over-bit (size d) (own d) (other d) n j
+
+  pub open-row : (black : Bool) (n m d j : ℕ) → d < 4 → j < 16 → m ≡ maskOf 64 (aliveWith black mine blocked n)
+      → (pairIn m (16 * d + j) && not (mine (16 * d + j + 4))) ≡ openAt black (size d) (own d) (other d) n j
+  open-row black n m d j hd hj e =
+      ap (λ (b : Bool). b && not (mine (16 * d + j + 4)))
+      (pair-same (aliveWith black mine blocked n) (λ d. scores black (size d) (own d) (other d) n) m d j hd hj e
+      (λ d j hd hj. scores-same d hd j hj black n) (scores-last black n))
+      ∙ and-same (scores black (size d) (own d) (other d) n j && (leb 1 j && scores black (size d) (own d) (other d) n (j - 1)))
+      (not (mine (16 * d + j + 4))) (not (own d (j + 4)))
+      (λ t. ap not (cell-mine d hd (16 * d + j + 4) (j + 4) (omega arith) (within t)))
+      ∙ open-bit black (size d) (own d) (other d) n j
+    where
+      within : T (scores black (size d) (own d) (other d) n j && (leb 1 j && scores black (size d) (own d) (other d) n (j - 1)))
+          → j + 4 < 16
+      within t =
+          let u = inside-of (scored black (size d) (own d) (other d) n j (and-left (scores black (size d) (own d) (other d) n j) _ t)) in
+          let s = laid .small d in
+          omega arith
+        where
+          inside-of : Window (size d) (own d) (other d) n j → j + 5 ≤ size d
+          inside-of w = w .fits
+
+-- ---- the words that the code makes of the masks of four lines
+
+module _ (own other : List ℕ) (p : ℕ) where
+  abbrev sizes : ℕ → ℕ
+  sizes d = lineSize d (lineNo d p)
+
+  pub laid : {off a b mine blocked : ℕ} → off ≡ maskOf 64 (pastEnd p) → a ≡ maskOf 64 (placeIn own) → b ≡ maskOf 64 (placeIn other)
+      → mine ≡ bitAnd a ((2 ^ 64 - 1) - off) → blocked ≡ bitOr b off
+      → Laid sizes (stonesIn own p) (stonesIn other p) (bit mine) (bit blocked)
+  unfolding placeIn pastEnd stonesIn
+  laid {off} {a} {b} {mine} {blocked} eo ea eb em ew =
+      record {
+        small = λ d. size-le d (lineNo d p);
+        mine-at = λ d j hd hj.
+            ap (λ (x : ℕ). bit x (16 * d + j))
+            (em ∙ ap₂ bitAnd ea (ap (λ (x : ℕ). (2 ^ 64 - 1) - x) eo ∙ mask-not 64 (pastEnd p)) ∙ mask-and 64 (placeIn own)
+            (λ k. not (pastEnd p k)))
+            ∙ bit-mask 64 (λ k. placeIn own k && not (pastEnd p k)) (16 * d + j) (omega arith)
+            ∙ ap₂ (λ (d j : ℕ). bit (getD own d 0) j && not (leb (sizes d) j)) (in-line d j hj) (in-cell d j hj)
+            ∙ ap (λ (b : Bool). bit (getD own d 0) j && b) (not-leb (sizes d) j) ∙ and-flip (bit (getD own d 0) j) (ltb j (sizes d));
+        block-at = λ d j hd hj.
+            ap (λ (x : ℕ). bit x (16 * d + j)) (ew ∙ ap₂ bitOr eb eo ∙ mask-or 64 (placeIn other) (pastEnd p))
+            ∙ bit-mask 64 (λ k. placeIn other k || pastEnd p k) (16 * d + j) (omega arith)
+            ∙ ap₂ (λ (d j : ℕ). bit (getD other d 0) j || leb (sizes d) j) (in-line d j hj) (in-cell d j hj)
+            ∙ table2 (λ b e. b || e) (λ b e. e || (not e && b)) tt (bit (getD other d 0) j) (leb (sizes d) j)
+            ∙ ap (λ (x : Bool). leb (sizes d) j || (x && bit (getD other d 0) j)) (not-leb (sizes d) j);
+        own-in = λ d j h. ap (λ (x : Bool). x && bit (getD own d 0) j) (le-ltb j (sizes d) h);
+      }
+
+  -- the rows of a mask that go through p, parted
+  pub rows-parted : (black : Bool) (kind : RowKind) (rows : ℕ → Bool) {m spots reach : ℕ} → m ≡ maskOf 64 rows
+      → spots ≡ maskOf 64 (spotAt p) → reach ≡ maskOf 64 (λ k. anyBelow (span kind) (λ i. bit spots (k + i)))
+      → ((d j : ℕ) → d < 4 → j < 16 → rows (16 * d + j) ≡ rowAt black (sizes d) (stonesIn own p d) (stonesIn other p d) kind j)
+      → tab 4 (λ d. maskOf 16 (λ j. bit (bitAnd m reach) (16 * d + j))) ≡ startMasks (seen black own other p kind)
+  unfolding startMasks seen
+  rows-parted black kind rows {m} {spots} {reach} em es er same = tab-cong 4 _ _ (λ d hd. mask-cong 16 _ _ (λ j hj. at d j hd hj))
+    where
+      row : ℕ → ℕ → Bool
+      row d j = rowAt black (sizes d) (stonesIn own p d) (stonesIn other p d) kind j
+
+      short : (d j : ℕ) → T (row d j) → j + span kind ≤ 16
+      short d j t =
+          let h = row-inside black (sizes d) (stonesIn own p d) (stonesIn other p d) kind j t in
+          omega (arith, size-le d (lineNo d p), span-le kind)
+
+      at : (d j : ℕ) → d < 4 → j < 16 → bit (bitAnd m reach) (16 * d + j) ≡ (through kind (cellNo d p) j && row d j)
+      at d j hd hj =
+          bit-and m reach (16 * d + j)
+          ∙ ap (λ (b : Bool). b && bit reach (16 * d + j))
+          (ap (λ (x : ℕ). bit x (16 * d + j)) em ∙ bit-mask 64 rows (16 * d + j) (omega arith) ∙ same d j hd hj)
+          ∙ and-same (row d j) (bit reach (16 * d + j)) (through kind (cellNo d p) j)
+          (λ t. reach-place (span kind) p d j hd hj (short d j t) es er)
+          ∙ and-flip (row d j) (through kind (cellNo d p) j)

@@ -1,9 +1,6 @@
--- The laws of the places near a point, for other crates to cite.
-mod Words
-pub mod Far
-mod Starts
-pub mod Lanes
+-- The laws of four start masks, for other crates to cite.
+mod Places
+mod Lanes
 pub mod Next
-pub mod Lines
-mod Local
-pub mod Rows
+pub mod More
+mod Gap

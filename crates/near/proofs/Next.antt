@@ -1,5 +1,5 @@
--- The first place that passes from a place on, by the bits of a mask too, and two places that are two or more apart. Assumes nothing.
-use mathlib.Core.Path.{_≡_, refl, sym, ap, _∙_}
+-- The first number that passes from a number on, by the bits of a mask too, and two that are two or more apart. Assumes nothing.
+use mathlib.Core.Path.{_≡_, refl, sym, ap, ap₂, _∙_}
 use mathlib.Core.Bool.{Bool, true, false, _&&_, cond}
 use mathlib.Core.Logic.{_⊎_, inl, inr}
 use Prim.Native.Nat.{ℕ, zero, suc, _+_, _-_, _/_, _^_, _≤_, _<_}
@@ -8,12 +8,13 @@ use native.Mathlib.Omega.{arith}
 use lib.Dec.{T, eqb, leb, ltb, ltb→lt, lt→ltb}
 use lib.Count.{trailingZeros}
 use borrow.Author.Tests.{eqb-true, eqb-false, leb-true, leb-false, ltb-true, ltb-false}
-use Rattle.rules.specs.Bit.{bit}
+use Rattle.rules.specs.Bit.{bit, maskOf}
+use Rattle.rules.specs.Forbidden.{apart}
 use Rattle.rules.proofs.Logic.{T-true, true-T, no-true, decide, both-ways, and-left, and-right, and-intro}
-use Rattle.rules.proofs.More.{TwoWithin, apartIn-elim, apartIn-intro}
-use Rattle.rules.proofs.Bits.{bit-shr, bit-above, bit-none}
+use Rattle.rules.proofs.More.{apart-elim, apart-intro}
+use Rattle.rules.proofs.Bits.{bit-shr, bit-above, bit-none, bit-mask}
 use Rattle.masks.proofs.Lowest.{low-below, low-set, low-lt}
-use Rattle.near.specs.Places.{farApart, firstOf, nextFrom}
+use Rattle.near.specs.Places.{firstOf, nextFrom}
 
 -- ---- the first place that passes
 
@@ -56,6 +57,12 @@ module _ (s : ℕ → Bool) where
       go true f ih k q g = absurd (omega arith)
       go false f ih k true g = ap s (eqb-true i j g) ∙ f
       go false f ih k false g = let o : (i ≡ j → ⊥) = eqb-false i j g in ih (omega arith) k
+
+module _ (s s′ : ℕ → Bool) (h : (k : ℕ) → k < 64 → s k ≡ s′ k) where
+  first-same : (m j : ℕ) → m ≤ 64 - j → firstOf s m j ≡ firstOf s′ m j
+  unfolding firstOf
+  first-same zero j l = refl
+  first-same (suc m) j l = ap₂ (λ (b : Bool) (k : ℕ). cond b j k) (h j (omega arith)) (first-same m (suc j) (omega arith))
 
 pub next-le : (s : ℕ → Bool) (n : ℕ) → nextFrom s n ≤ 64
 unfolding nextFrom
@@ -134,6 +141,11 @@ next-skip s n m h top none = go (decide (ltb (nextFrom s m) 64)) (decide (ltb (n
         let d = next-le s n in
         omega arith
 
+-- two tests that agree on the numbers below 64
+next-same : (s s′ : ℕ → Bool) (n : ℕ) → ((k : ℕ) → k < 64 → s k ≡ s′ k) → nextFrom s n ≡ nextFrom s′ n
+unfolding nextFrom
+next-same s s′ n h = first-same s s′ h (64 - n) n (omega arith)
+
 -- ---- the first set bit of a mask from a place on
 
 pub next-zero : (m n : ℕ) → m / 2 ^ n ≡ 0 → 64 ≡ nextFrom (bit m) n
@@ -158,19 +170,15 @@ module _ (m n : ℕ) (fits : m < 2 ^ 64) (some : m / 2 ^ n ≡ 0 → ⊥) where
       sym (next-is (bit m) n (n + low) (omega arith) low-place (true-T low-on) (λ j l h.
       ap (bit m) (omega arith) ∙ sym (bit-shr m n (j - n)) ∙ low-below 64 (m / 2 ^ n) (j - n) (omega arith)))
 
--- ---- two places two or more apart
+-- of the mask of a test it is the test that counts
+pub next-mask : (f : ℕ → Bool) (n : ℕ) {m : ℕ} → m ≡ maskOf 64 f → nextFrom (bit m) n ≡ nextFrom f n
+next-mask f n {m} e = ap (λ (x : ℕ). nextFrom (bit x) n) e ∙ next-same (bit (maskOf 64 f)) f n (bit-mask 64 f)
 
-pub far-elim : (s : ℕ → Bool) → T (farApart s) → TwoWithin 64 s
-unfolding farApart
-far-elim s t = apartIn-elim 64 s t
-
-pub far-intro : (s : ℕ → Bool) → TwoWithin 64 s → T (farApart s)
-unfolding farApart
-far-intro s w = apartIn-intro 64 s w
+-- ---- two that are two or more apart
 
 -- asked in order: a first one, and one more two or more places on
-pub far-first : (s : ℕ → Bool) → farApart s ≡ (ltb (nextFrom s 0) 64 && ltb (nextFrom s (nextFrom s 0 + 2)) 64)
-far-first s = both-ways (farApart s) (ltb x 64 && ltb y 64) to fro
+pub apart-first : (s : ℕ → Bool) → apart 64 s ≡ (ltb (nextFrom s 0) 64 && ltb (nextFrom s (nextFrom s 0 + 2)) 64)
+apart-first s = both-ways (apart 64 s) (ltb x 64 && ltb y 64) to fro
   where
     x : ℕ
     x = nextFrom s 0
@@ -178,21 +186,21 @@ far-first s = both-ways (farApart s) (ltb x 64 && ltb y 64) to fro
     y : ℕ
     y = nextFrom s (x + 2)
 
-    to : T (farApart s) → T (ltb x 64 && ltb y 64)
+    to : T (apart 64 s) → T (ltb x 64 && ltb y 64)
     to t =
-        let w = far-elim s t in
+        let w = apart-elim 64 s t in
         let far = w .far in
         let lt = w .k-lt in
         let a : x ≤ w .j = next-first s 0 (w .j) (omega arith) (w .here) in
         let b : y ≤ w .k = next-first s (x + 2) (w .k) (omega arith) (w .there) in
         and-intro (ltb x 64) (ltb y 64) (lt→ltb x 64 (omega arith)) (lt→ltb y 64 (omega arith))
 
-    fro : T (ltb x 64 && ltb y 64) → T (farApart s)
+    fro : T (ltb x 64 && ltb y 64) → T (apart 64 s)
     fro t =
         let a : x < 64 = ltb→lt x 64 (and-left (ltb x 64) (ltb y 64) t) in
         let b : y < 64 = ltb→lt y 64 (and-right (ltb x 64) (ltb y 64) t) in
         let c : x + 2 ≤ 64 = le-of-suc-le-suc (lt-of-not-le (λ h. let e : y ≡ 64 = next-past s (x + 2) (omega arith) in omega arith)) in
-        far-intro s (record {
+        apart-intro 64 s (record {
           j = x;
           k = y;
           far = next-ge s (x + 2) c;

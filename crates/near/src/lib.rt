@@ -1,15 +1,14 @@
-// The cells near a point on its four lines as one word of 64 places, and the rows seen in it: all four lines are read at once.
-mod places;
-mod sight;
+// The rows through a point, on all four lines at once: four start masks for each kind, one for each direction, and what is asked of such
+// masks. The masks of the four lines are joined in one word of 64 places, and each reading is one pass over it.
+mod eyes;
+mod rows;
+mod starts;
 mod wide;
+mod words;
 
-pub use places::Near;
-pub use places::near_of;
-pub use places::next_start;
-pub use places::point_of;
-pub use places::step_in;
-pub use places::with_point;
-pub use sight::Sight;
-pub use sight::sight_of;
-pub use sight::threes_of;
-pub use wide::is_apart;
+pub use eyes::first_gap;
+pub use rows::Rows;
+pub use rows::rows_near;
+pub use starts::more_than_one;
+pub use starts::next_start;
+pub use starts::some_row;

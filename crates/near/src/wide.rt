@@ -4,12 +4,10 @@ ghost use mathlib.Core.Bool.{not, _&&_};
 ghost use Prim.Native.Nat.{_+_};
 ghost use Rattle.rules.specs.Bit.{bit, maskOf};
 ghost use Rattle.rules.specs.Line.{free, count, beside};
-ghost use Rattle.rules.specs.declared.RowKind.the-variants.{Two, Four};
 ghost use Rattle.masks.specs.Masks.{Tallied};
-ghost use Rattle.near.specs.Places.{startPlace, farApart};
 ghost use Rattle.near.specs.Windows.{aliveWith, freeWith, pairIn};
 
-// The windows that are alive for Black and hold two, three or four black stones; and those that are free and hold four, dead or not.
+// The windows that are alive and hold two, three or four own stones; and those that are free and hold four, dead or not.
 pub(crate) struct Windows {
     pub(crate) twos: u64,
     pub(crate) threes: u64,
@@ -31,22 +29,22 @@ fn free_windows(blocked: u64) -> u64
     !(blocked | blocked >> 1 | blocked >> 2 | blocked >> 3 | blocked >> 4)
 }
 
-// "a black stone stands at j−1 or j+5"
-fn beside_windows(blacks: u64) -> u64
-    ensures { λ r. ⌜ r ≡ maskOf 64 (beside (bit blacks)) ⌝ }
+// "for Black also if a black stone stands at j−1 or j+5"
+fn beside_windows(own: u64, black: bool) -> u64
+    ensures { λ r. ⌜ r ≡ maskOf 64 (λ k. black && beside (bit own) k) ⌝ }
 {
-    blacks << 1 | blacks >> 5
+    if black { own << 1 | own >> 5 } else { 0 }
 }
 
-// How many black stones each window holds, in binary digits: a full adder on its first three cells, a half adder on its last two, then the
+// How many own stones each window holds, in binary digits: a full adder on its first three cells, a half adder on its last two, then the
 // carries.
-fn tally(blacks: u64) -> Digits
-    ensures { λ r. ⌜ Tallied 64 (count (bit blacks)) (r .ones) (r .twos) (r .fours) ⌝ }
+fn tally(own: u64) -> Digits
+    ensures { λ r. ⌜ Tallied 64 (count (bit own)) (r .ones) (r .twos) (r .fours) ⌝ }
 {
-    let s1 = blacks ^ blacks >> 1 ^ blacks >> 2;
-    let c1 = blacks & blacks >> 1 | blacks >> 2 & (blacks ^ blacks >> 1);
-    let s2 = blacks >> 3 ^ blacks >> 4;
-    let c2 = blacks >> 3 & blacks >> 4;
+    let s1 = own ^ own >> 1 ^ own >> 2;
+    let c1 = own & own >> 1 | own >> 2 & (own ^ own >> 1);
+    let s2 = own >> 3 ^ own >> 4;
+    let c2 = own >> 3 & own >> 4;
     let c3 = s1 & s2;
     Digits {
         ones: s1 ^ s2,
@@ -55,16 +53,16 @@ fn tally(blacks: u64) -> Digits
     }
 }
 
-// "dead if not free, and for Black also if a black stone stands at j−1 or j+5"
-pub(crate) fn windows_of(blacks: u64, blocked: u64) -> Windows
-    ensures { λ r. ⌜ (r .twos ≡ maskOf 64 (aliveWith (bit blacks) (bit blocked) 2))
-        × (r .threes ≡ maskOf 64 (aliveWith (bit blacks) (bit blocked) 3))
-        × (r .fours ≡ maskOf 64 (aliveWith (bit blacks) (bit blocked) 4))
-        × (r .overs ≡ maskOf 64 (freeWith (bit blacks) (bit blocked) 4)) ⌝ }
+// "It is dead if not free, and for Black also if a black stone stands at j−1 or j+5. Its score is its count of own stones"
+pub(crate) fn windows_of(own: u64, blocked: u64, black: bool) -> Windows
+    ensures { λ r. ⌜ (r .twos ≡ maskOf 64 (aliveWith black (bit own) (bit blocked) 2))
+        × (r .threes ≡ maskOf 64 (aliveWith black (bit own) (bit blocked) 3))
+        × (r .fours ≡ maskOf 64 (aliveWith black (bit own) (bit blocked) 4))
+        × (r .overs ≡ maskOf 64 (freeWith (bit own) (bit blocked) 4)) ⌝ }
 {
     let free = free_windows(blocked);
-    let alive = free & !beside_windows(blacks);
-    let n = tally(blacks);
+    let alive = free & !beside_windows(own, black);
+    let n = tally(own);
     Windows {
         twos: alive & n.twos & !n.ones,
         threes: alive & n.twos & n.ones,
@@ -73,11 +71,11 @@ pub(crate) fn windows_of(blacks: u64, blocked: u64) -> Windows
     }
 }
 
-// "Two, Three, Straight at j: windows j−1 and j both score 2, 3, 4 and cell j+4 is empty." (A free window has no white stone there.)
-pub(crate) fn open_rows(scored: u64, blacks: u64) -> u64
-    ensures { λ r. ⌜ r ≡ maskOf 64 (λ k. pairIn scored k && not (bit blacks (k + 4))) ⌝ }
+// "Two, Three, Straight at j: windows j−1 and j both score 2, 3, 4 and cell j+4 is empty." (A free window has no other stone there.)
+pub(crate) fn open_rows(scored: u64, own: u64) -> u64
+    ensures { λ r. ⌜ r ≡ maskOf 64 (λ k. pairIn scored k && not (bit own (k + 4))) ⌝ }
 {
-    scored & scored << 1 & !(blacks >> 4)
+    scored & scored << 1 & !(own >> 4)
 }
 
 // "Overlining, Overlined at j: windows j−1 and j are both free and both hold 4, or both 5, counted without the dead rule."
@@ -85,26 +83,4 @@ pub(crate) fn over_rows(held: u64) -> u64
     ensures { λ r. ⌜ r ≡ maskOf 64 (pairIn held) ⌝ }
 {
     held & held << 1
-}
-
-// Whether two starts are two or more apart: past the first and the next place one is left. The last place stands in for the first start
-// where there is none, so that no branch is needed.
-pub fn is_apart(starts: u64) -> bool
-    ensures { λ r. ⌜ r ≡ farApart (bit starts) ⌝ }
-{
-    starts & !(3u64 << u64::trailing_zeros(starts | 1u64 << 63)) != 0
-}
-
-// Places 1 to 5 of each direction, where the window of a Sword or a Four through the point can start.
-pub(crate) fn five_back() -> u64
-    ensures { λ r. ⌜ r ≡ maskOf 64 (startPlace Four) ⌝ }
-{
-    0x003E003E003E003E
-}
-
-// Places 2 to 5, where the shared four cells of a Two, a Three or an Overlining through the point can start.
-pub(crate) fn four_back() -> u64
-    ensures { λ r. ⌜ r ≡ maskOf 64 (startPlace Two) ⌝ }
-{
-    0x003C003C003C003C
 }

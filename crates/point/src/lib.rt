@@ -25,6 +25,7 @@ pub use lines::cell_no;
 pub use lines::line_no;
 pub use lines::line_size;
 pub use lines::point_at;
+pub use lines::step_in;
 pub use place::Place;
 pub use place::address;
 pub use view::turn_point;

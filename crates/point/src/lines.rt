@@ -4,7 +4,7 @@ ghost use mathlib.Core.Path.{_≡_};
 ghost use mathlib.Core.Bool.{cond};
 ghost use Prim.Native.Nat.{_+_, _-_, _<_};
 ghost use lib.Dec.{ltb};
-ghost use Rattle.rules.specs.Point.{byDirection, lineNo, cellNo, lineCount, lineSize, stored, pointAt, codeOf};
+ghost use Rattle.rules.specs.Point.{byDirection, stepOf, lineNo, cellNo, lineCount, lineSize, stored, pointAt, codeOf};
 
 // One of four, by the direction.
 pub(crate) fn by_direction(d: u8, vertical: u8, horizontal: u8, ascending: u8, descending: u8) -> u8
@@ -47,6 +47,13 @@ fn below_middle(i: u8, before: u8, after: u8) -> u8
     ensures { λ r. ⌜ r ≡ cond (ltb i 14) before after ⌝ }
 {
     if i < 14 { before } else { after }
+}
+
+// From one cell of a line to the next the code grows by this.
+pub fn step_in(d: u8) -> u8
+    ensures { λ r. ⌜ r ≡ stepOf d ⌝ }
+{
+    by_direction(d, 1, 15, 16, 14)
 }
 
 // How many lines a direction has.

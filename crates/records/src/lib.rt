@@ -7,7 +7,6 @@ mod tally;
 pub use answers::number_is;
 pub use answers::refusal_word;
 pub use answers::stone_is;
-pub use report::say;
 pub use report::say_end;
 pub use report::say_tally;
 pub use report::shown;

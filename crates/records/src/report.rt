@@ -5,7 +5,7 @@ use libc::STDOUT_FILENO;
 ghost use mathlib.Core.Path.{_≡_};
 ghost use Rattle.records.specs.Tallies.{total, afterShown};
 
-pub fn say(words: &[u8]) {
+fn say(words: &[u8]) {
     io::write_all(STDOUT_FILENO, words);
 }
 
@@ -42,13 +42,17 @@ pub fn say_tally(differ: u64, letter: u8, t: Tally) -> u64
     sum(differ, t.differ)
 }
 
-// The last line, and before it one for what is no record, where there is some.
-pub fn say_end(differ: u64, unread: Tally) {
+// The last line, and before it one for what is no record, where there is some. How many answers differ in all.
+pub fn say_end(differ: u64, unread: Tally) -> u64
+    ensures { λ r. ⌜ r ≡ total differ (unread .differ) ⌝ }
+{
     if unread.records != 0 {
         say_number(unread.records);
         say(b" lines are no records\n");
     }
-    say_verdict(sum(differ, unread.differ));
+    let all = sum(differ, unread.differ);
+    say_verdict(all);
+    all
 }
 
 fn say_verdict(differ: u64) {

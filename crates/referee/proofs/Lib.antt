@@ -1,10 +1,8 @@
 -- The laws of the referee.
-pub mod Gap
-pub mod Sighted
-pub mod Looked
+pub mod RowsSeen
+pub mod EyeFound
 pub mod Search
 pub mod Asked
-pub mod Tested
 pub mod Strip
 pub mod Swept
 pub mod Ruled
@@ -13,3 +11,4 @@ pub mod Lines
 pub mod Lent
 pub mod Walk
 pub mod Trial
+pub mod ByValue

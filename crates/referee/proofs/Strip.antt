@@ -8,49 +8,30 @@ use native.Mathlib.Omega.{arith}
 use lib.Dec.{eqb, ltb, leb, eqb→eq, leb→le, lt→ltb}
 use lib.ListN.{getD}
 use borrow.Author.Tests.{eqb-true, eqb-false, lt-ltb, le-ltb, ltb-true, ltb-false}
-use Rattle.rules.specs.Tools.{allBelow}
 use Rattle.rules.specs.Numbers.{colourNo}
 use Rattle.rules.specs.Bit.{bit, maskOf}
-use Rattle.rules.specs.Point.{lineNo, cellNo, lineSize, pointAt}
+use Rattle.rules.specs.Point.{lineNo, cellNo, lineSize, pointAt, stepOf}
 use Rattle.rules.specs.Grid.{stoneAt}
 use Rattle.rules.specs.declared.Player.{Player}
 use Rattle.rules.specs.declared.Player.the-variants.{Black, White}
-use Rattle.rules.proofs.Logic.{implies, implied, all2, all3}
 use Rattle.rules.proofs.Bits.{bit-mask, mask-cong, mask-none}
-use Rattle.rules.proofs.Address.{line-here, point-lt, size-le}
+use Rattle.rules.proofs.Address.{line-here, point-lt, size-le, step-le, step-back, step-at, walkTo}
 use Rattle.rules.proofs.Rows.{stone-in, stone-out}
-use Rattle.near.specs.Places.{stepOf}
-use Rattle.near.proofs.Lanes.{step-le}
 use Rattle.referee.specs.Referee.{MasksOf}
 
 -- ---- the points of the line, by its step
 
--- the code of cell j of the line through p: from p back to the first cell, and on
-abbrev walkTo : ℕ → ℕ → ℕ → ℕ
-walkTo d p j = p - cellNo d p * stepOf d + stepOf d * j
-
 module _ (d p : ℕ) (hd : d < 4) (hp : p < 225) where
   pub back-le : {cell step : ℕ} → cell ≡ cellNo d p → step ≡ stepOf d → cell * step ≤ p
-  unfolding allBelow cellNo
-  back-le a b =
-      rw (a, b) (leb→le (cellNo d p * stepOf d) p (all2 4 225 (λ d p. leb (cellNo d p * stepOf d) p) tt d p hd hp))
-
-  walk-at : (j : ℕ) → j < lineSize d (lineNo d p) → walkTo d p j ≡ pointAt d (lineNo d p) j
-  unfolding allBelow lineNo cellNo lineSize pointAt
-  walk-at j hj =
-      eqb→eq (walkTo d p j) (pointAt d (lineNo d p) j)
-      (implied (ltb j (lineSize d (lineNo d p))) (eqb (walkTo d p j) (pointAt d (lineNo d p) j))
-      (all3 4 225 15 (λ d p j. implies (ltb j (lineSize d (lineNo d p))) (eqb (walkTo d p j) (pointAt d (lineNo d p) j))) tt d p j
-      hd hp (omega (arith, size-le d (lineNo d p))))
-      (lt→ltb j (lineSize d (lineNo d p)) hj))
+  back-le a b = rw (a, b) (step-back d p hd hp)
 
   walk-lt : (j : ℕ) → j < lineSize d (lineNo d p) → walkTo d p j < 225
-  walk-lt j hj = rw (walk-at j hj) (point-lt d (lineNo d p) j hd (line-here d p hd hp) hj)
+  walk-lt j hj = rw (step-at d p hd hp j hj) (point-lt d (lineNo d p) j hd (line-here d p hd hp) hj)
 
   walk-stone : (r : Player) (cells : List ℕ) (j : ℕ) {q : ℕ} → j < lineSize d (lineNo d p) → q ≡ walkTo d p j
       → eqb (getD cells q 0) (colourNo r) ≡ stoneAt r cells d (lineNo d p) j
   walk-stone r cells j hj e =
-      ap (λ (q : ℕ). eqb (getD cells q 0) (colourNo r)) (e ∙ walk-at j hj) ∙ sym (stone-in r cells d (lineNo d p) j hj)
+      ap (λ (q : ℕ). eqb (getD cells q 0) (colourNo r)) (e ∙ step-at d p hd hp j hj) ∙ sym (stone-in r cells d (lineNo d p) j hj)
 
 -- ---- the stones on the cells below j of line i
 

@@ -1,68 +1,56 @@
--- Section 5's tests as the code asks them. No public statement cites what is said here of masks or of lines.
+-- Section 5's questions as the code asks them. No public statement cites what is said here of masks or of lines.
 use mathlib.Core.Path.{_≡_}
 use mathlib.Core.Bool.{Bool, _&&_, cond}
 use mathlib.Core.List.{List}
-use Prim.Native.Nat.{ℕ, _+_, _-_, _/_, _%_, _<_}
-use lib.Dec.{T, leb}
+use Prim.Native.Nat.{ℕ, _<_}
+use lib.Dec.{T}
 use lib.ListN.{getD}
 use Rattle.rules.specs.Tools.{anyBelow}
 use Rattle.rules.specs.Bit.{bit, maskOf}
-use Rattle.rules.specs.Line.{Stones}
-use Rattle.rules.specs.Point.{lineNo, pointAt}
-use Rattle.rules.specs.Grid.{isEmpty, stoneAt, rowsThrough}
-use Rattle.rules.specs.Forbidden.{isOverline, isDoubleFour, isDoubleThree, completesFive, strictOf}
+use Rattle.rules.specs.Point.{lineNo}
+use Rattle.rules.specs.Grid.{isEmpty, stoneAt, Starts, startMasks, startsOf, rowsThrough}
+use Rattle.rules.specs.Forbidden.{someRow, moreThanOne, withBlack, realDouble, isDoubleThree, firstKind, strictOf}
 use Rattle.rules.specs.declared.Player.{Player}
 use Rattle.rules.specs.declared.Player.the-variants.{Black}
-use Rattle.rules.specs.declared.RowKind.the-variants.{Two, Sword, Four, Overlining}
+use Rattle.rules.specs.declared.RowKind.{RowKind}
+use Rattle.rules.specs.declared.RowKind.the-variants.{Two}
+use Rattle.rules.specs.declared.Verdict.{Verdict}
+use Rattle.rules.specs.declared.Verdict.the-variants.{None}
 use Rattle.point.specs.Places.{hasPlace}
-use Rattle.near.specs.Places.{farNo, atPlace, placesOf, farApart}
-use Rattle.grid.specs.Lines.{writeOn}
+use Rattle.near.specs.declared.rows.Rows.{Rows}
+use Rattle.grid.specs.Lines.{cellsOf, Sound, writeOn}
 use Rattle.board.specs.declared.board.Board.{Board}
-use Rattle.referee.specs.declared.look.Look.{Look}
-
--- ---- the trial stone's question
 
 -- "DoubleThree: more than one Two through p, and on the board with Black at p more than one real Three through p", asked alone
 unfoldable pub doubleThreeAt : List ℕ → ℕ → Bool
 doubleThreeAt cells p = isEmpty (getD cells p 0) && isDoubleThree strictOf cells p
 
--- the first of the cells j to j + 2 that has no stone, else j + 3: of a Three at start j this is its one eye (proofs/Gap.antt)
-unfoldable pub gapFrom : Stones → ℕ → ℕ
-gapFrom own j = cond (own j) (cond (own (j + 1)) (cond (own (j + 2)) (j + 3) (j + 2)) (j + 1)) j
+-- Black's rows of each kind through p
+abbrev pub blackRows : List ℕ → ℕ → RowKind → Starts
+blackRows cells p kind = rowsThrough Black kind cells p
 
--- the point there, of the line through p in direction d
-unfoldable pub eyeOf : List ℕ → ℕ → ℕ → ℕ → ℕ
-eyeOf cells p d j = pointAt d (lineNo d p) (gapFrom (stoneAt Black cells d (lineNo d p)) j)
+-- Section 5's order by the start masks of the rows through p; l is asked only where more than one Two goes through it
+unfoldable pub plainBy : List ℕ → ℕ → Rows → Verdict
+plainBy l p r =
+    firstKind (someRow (startsOf (r .overlinings))) (moreThanOne (startsOf (r .swords)))
+    (moreThanOne (startsOf (r .twos)) && realDouble strictOf (withBlack (cellsOf l) p) p)
 
--- ---- what is read near a point
+unfoldable pub strictBy : List ℕ → ℕ → Rows → Verdict
+strictBy l p r = cond (someRow (startsOf (r .fours))) None (plainBy l p r)
+
+-- a stone may be tried at p on these lines, where these are the starts of the Twos
+pub record Triable (l : List ℕ) (p : ℕ) (twos : List ℕ) : Type 0 where
+  pub sound : Sound l
+  pub free : getD (cellsOf l) p 0 ≡ 0
+  pub starts : twos ≡ startMasks (rowsThrough Black Two (cellsOf l) p)
 
 -- m has the player's masks of the stored lines through p
 unfoldable pub MasksOf : Player → List ℕ → ℕ → List ℕ → Type 0
 MasksOf r cells p m = (d : ℕ) → d < 4 → T (hasPlace d p) → getD m d 0 ≡ maskOf 16 (stoneAt r cells d (lineNo d p))
 
--- w has the black stones at the places near p, on the stored lines through it
-unfoldable pub BlackNear : List ℕ → ℕ → ℕ → Type 0
-BlackNear cells p w =
-    (k : ℕ) → k < 64 → T (hasPlace (k / 16) p) → k % 16 < 11
-    → bit w k ≡ (leb 5 (farNo p k) && stoneAt Black cells (k / 16) (lineNo (k / 16) p) (farNo p k - 5))
-
--- a look is what is seen in two words of places
-pub record SeenIn (blacks blocked : ℕ) (l : Look) : Type 0 where
-  pub fives : l .five ≡ anyBelow 64 (placesOf blacks blocked Four)
-  pub overlines : l .overline ≡ anyBelow 64 (placesOf blacks blocked Overlining)
-  pub fours : l .«double_four» ≡ farApart (placesOf blacks blocked Sword)
-  pub starts : l .twos ≡ maskOf 64 (placesOf blacks blocked Two)
-  pub stones : l .blacks ≡ blacks
-
--- a look at p tells what section 5 wants to know
-pub record Looked (cells : List ℕ) (p : ℕ) (l : Look) : Type 0 where
-  pub fives : l .five ≡ completesFive cells p
-  pub overlines : l .overline ≡ isOverline cells p
-  pub fours : l .«double_four» ≡ isDoubleFour cells p
-  pub starts : l .twos ≡ maskOf 64 (atPlace (rowsThrough Black Two cells p) p)
-  pub stones : BlackNear cells p (l .blacks)
-
--- ---- boards
+-- the columns that have a mark
+unfoldable pub columnsOf : List ℕ → ℕ
+columnsOf m = maskOf 16 (λ x. anyBelow 26 (λ i. bit (getD m i 0) x))
 
 -- the board with a cell's value written at a point of its lines
 abbrev pub writtenBoard : Board → ℕ → ℕ → Board

@@ -1,31 +1,27 @@
 // The front, on a board by value and on cell bytes: each question tests what it is given, in section 2's order, and asks the referee.
 // Nothing that it is handed is changed.
 use super::answer::VerdictAnswer;
-use super::cycle::plain;
 use super::list::forbidden_pairs;
-use super::look::look_on;
-use super::on_lines::strict_on;
-use super::single::strict_in;
-use super::thin::tried;
+use super::rows::plain_on;
+use super::single::strict_of;
+use super::thin::forbidden_strict_in;
+use super::thin::is_double_three_in;
 use board::Board;
 use board::cells_refusal;
 use grid::cell_of;
 use grid::cells_of;
 use lent::write_out;
-use near::is_apart;
 use point::code_refusal;
 use rules::CountAnswer;
 use rules::TestAnswer;
 use rules::first;
 use rules::unless;
 ghost use mathlib.Core.Path.{_≡_};
-ghost use Prim.Native.Nat.{_<_};
 ghost use Rattle.rules.specs.Refusals.{first};
 ghost use Rattle.rules.specs.Answers.{testAnswer};
 ghost use Rattle.rules.specs.Forbidden.{strictOf, plainOf, forbiddenList};
 ghost use Rattle.lent.specs.Lists.{counted, listOut};
 ghost use Rattle.point.specs.Points.{codeRefusal};
-ghost use Rattle.grid.specs.Lines.{cellsOf, Sound};
 ghost use Rattle.grid.proofs.Lines.{Cells};
 ghost use Rattle.board.specs.Boards.{cells, boardRefusal, cellsRefusal, refusalAt};
 ghost use Rattle.referee.specs.Referee.{doubleThreeAt};
@@ -40,19 +36,19 @@ pub fn forbidden(board: Board, code: u8) -> VerdictAnswer
         return VerdictAnswer::Refused(refused);
     }
     let mut lines = board.lines;
-    VerdictAnswer::Is(plain(&mut lines, code))
+    VerdictAnswer::Is(plain_on(&mut lines, code))
 }
 
 // The strict verdict: none at an occupied point, and where the stone completes a five.
 pub fn forbidden_strict(board: Board, code: u8) -> VerdictAnswer
     ensures { λ r. ⌜ r ≡ verdictAnswer (refusalAt board code) (strictOf (cells board) code) ⌝ }
 {
-    let mut lines = board.lines;
-    strict_on(&mut lines, code)
+    let mut b = board;
+    forbidden_strict_in(&mut b, code)
 }
 
-// The same of a board given as cell bytes: once they are tested, only the four lines through the point are read, until a nested question
-// arises.
+// The same of a board given as cell bytes: once they are tested, only the four lines through the point are read, unless there may be a
+// trial.
 pub fn forbidden_strict_of(cells: &[u8], code: u8) -> VerdictAnswer
     ensures { λ r. ⌜ r
         ≡ verdictAnswer (first (cellsRefusal (now (cells .entry))) (codeRefusal code)) (strictOf (now (cells .entry)) code) ⌝ }
@@ -61,19 +57,15 @@ pub fn forbidden_strict_of(cells: &[u8], code: u8) -> VerdictAnswer
     if refused != 0 {
         return VerdictAnswer::Refused(refused);
     }
-    VerdictAnswer::Is(strict_in(cells, code))
+    VerdictAnswer::Is(strict_of(cells, code))
 }
 
 // Whether the point is empty and a double three for Black, whatever other kind it is.
 pub fn is_double_three(board: Board, code: u8) -> TestAnswer
     ensures { λ r. ⌜ r ≡ testAnswer (refusalAt board code) (doubleThreeAt (cells board) code) ⌝ }
 {
-    let refused = board.refusal_at(code);
-    if refused != 0 {
-        return TestAnswer::Refused(refused);
-    }
-    let lines = board.lines;
-    TestAnswer::Is(double_three_at(&lines, code))
+    let mut b = board;
+    is_double_three_in(&mut b, code)
 }
 
 // The forbidden points, two bytes each, the kind and the code, by ascending code; and how many there are.
@@ -90,7 +82,7 @@ pub fn forbidden_points(board: Board, out: &mut [u8]) -> CountAnswer
     listed(&cells, out)
 }
 
-// The same of a board given as cell bytes, whose lines are built only where a nested question arises.
+// The same of a board given as cell bytes.
 pub fn forbidden_points_of(cells: &[u8], out: &mut [u8]) -> CountAnswer
     ensures { λ r. ⌜ (r ≡ counted 2 (cellsRefusal (now (cells .entry))) (now (out .entry)) (forbiddenList (now (cells .entry))))
         × (now (out .exit) ≡ listOut (cellsRefusal (now (cells .entry))) (now (out .entry)) (forbiddenList (now (cells .entry)))) ⌝ }
@@ -124,19 +116,4 @@ fn forbidden_refusal(board: Board, code: u8) -> u8
     }
     let lines = board.lines;
     unless(cell_of(&lines, code) == 0, 11)
-}
-
-// More than one Two at an empty point, and more than one real Three on the trial.
-fn double_three_at(lines: &[u16; 144], code: u8) -> bool
-    requires { ⌜ Sound (now lines) × (code < 225) ⌝ }
-    ensures { λ r. ⌜ r ≡ doubleThreeAt (cellsOf (now (lines .entry))) code ⌝ }
-{
-    if cell_of(lines, code) != 0 {
-        return false;
-    }
-    let seen = look_on(lines, code);
-    if is_apart(seen.twos) {
-        return tried(lines, code);
-    }
-    false
 }

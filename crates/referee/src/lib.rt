@@ -2,10 +2,11 @@
 // question is seen by `near` at one point, and by `sweep` at all points at once.
 mod answer;
 mod cycle;
+mod eye;
 mod front;
 mod list;
-mod look;
 mod on_lines;
+mod rows;
 mod single;
 mod thin;
 
@@ -17,3 +18,4 @@ pub use front::forbidden_strict;
 pub use front::forbidden_strict_of;
 pub use front::is_double_three;
 pub use thin::forbidden_strict_in;
+pub use thin::is_double_three_in;

@@ -1,6 +1,7 @@
-// The forbidden list, collected: most points are settled by what is seen of all points at once.
-use super::cycle::double_three_on;
-use grid::lines_of;
+// The forbidden list, collected: a point is asked about where what is seen of all points at once leaves something to ask.
+use super::cycle::strict;
+use super::single::lines_if;
+use super::single::strict_of;
 use lent::keep;
 use masks::bit_at;
 use rules::Verdict;
@@ -8,15 +9,16 @@ use sweep::is_marked;
 use sweep::marked_columns;
 use sweep::sweep_points;
 ghost use mathlib.Core.Path.{_≡_};
-ghost use mathlib.Core.Bool.{not, cond};
+ghost use mathlib.Core.Bool.{not};
 ghost use Prim.Native.Nat.{_<_};
 ghost use lib.Dec.{T};
 ghost use Rattle.rules.specs.Numbers.{isNone};
-ghost use Rattle.rules.specs.Forbidden.{strictOf, isOverline, isDoubleFour, forbiddenList};
-ghost use Rattle.lent.specs.Lists.{zeros, Held};
+ghost use Rattle.rules.specs.Forbidden.{strictOf, forbiddenList};
+ghost use Rattle.lent.specs.Lists.{Held};
 ghost use Rattle.grid.specs.Lines.{linesOf};
 ghost use Rattle.grid.proofs.Lines.{Cells};
-ghost use Rattle.sweep.specs.Marks.{marks, openTo, moreTwos};
+ghost use Rattle.sweep.specs.Marks.{marks, askedAt};
+ghost use Rattle.referee.specs.Referee.{columnsOf};
 
 // At most 225 pairs of a kind and a code, with how many bytes they are.
 pub(crate) struct Pairs {
@@ -24,31 +26,48 @@ pub(crate) struct Pairs {
     pub(crate) len: usize,
 }
 
-// Each point whose strict verdict is a kind, ascending. A column without a mark is passed over.
+// Each point whose strict verdict is a kind, ascending.
 pub(crate) fn forbidden_pairs(cells: &[u8]) -> Pairs
     requires { ⌜ Cells (now cells) ⌝ }
     ensures { λ r. ⌜ Held 450 (forbiddenList (now (cells .entry))) (r .bytes) (r .len) ⌝ }
 {
-    let swept = sweep_points(cells);
-    let overlines = swept.overlines;
-    let double_fours = swept.double_fours;
-    let double_twos = swept.double_twos;
-    let twos = marked_columns(&double_twos);
-    let marked = marked_columns(&overlines) | marked_columns(&double_fours) | twos;
-    let mut lines = lines_if(twos != 0, cells);
+    let asked = sweep_points(cells);
+    let columns = marked_columns(&asked);
+    if columns == 0 {
+        return Pairs {
+            bytes: [0; 450],
+            len: 0,
+        };
+    }
+    let built = are_many(columns);
+    let mut lines = lines_if(built, cells);
+    asked_pairs(cells, &mut lines, built, &asked, columns)
+}
+
+// Whether the points to ask about lie in so many columns that it pays to build the lines for all of them. A game's board has about one
+// such point, or none.
+fn are_many(columns: u16) -> bool {
+    u16::count_ones(columns) > 3
+}
+
+// .. on the lines, if they are built, or on the cells. A column without a mark is passed over.
+fn asked_pairs(
+    cells: &[u8],
+    lines: &mut [u16; 144],
+    built: bool,
+    asked: &[u16; 26],
+    columns: u16,
+) -> Pairs
+    requires { ⌜ Cells (now cells) × (T built → now lines ≡ linesOf (now cells)) × (now asked ≡ marks (askedAt (now cells)))
+        × (columns ≡ columnsOf (now asked)) ⌝ }
+    ensures { λ r. ⌜ Held 450 (forbiddenList (now (cells .entry))) (r .bytes) (r .len) ⌝ }
+{
     let mut bytes = [0u8; 450];
     let mut n = 0usize;
     let mut p = 0u8;
     while p < 225 {
-        if bit_at(marked, p / 15) {
-            let verdict = verdict_at(
-                cells,
-                &mut lines,
-                &overlines,
-                &double_fours,
-                &double_twos,
-                p,
-            );
+        if bit_at(columns, p / 15) {
+            let verdict = verdict_at(cells, lines, built, asked, p);
             n = keep(&mut bytes, n, is_kind(verdict), &[verdict.number(), p]);
             p += 1;
         } else {
@@ -58,40 +77,23 @@ pub(crate) fn forbidden_pairs(cells: &[u8]) -> Pairs
     Pairs { bytes, len: n }
 }
 
-// The stored lines, where they are wanted.
-fn lines_if(wanted: bool, cells: &[u8]) -> [u16; 144]
-    ensures { λ r. ⌜ r ≡ cond wanted (linesOf (now (cells .entry))) (zeros 144) ⌝ }
-{
-    if wanted {
-        return lines_of(cells);
-    }
-    [0; 144]
-}
-
-// The strict verdict at a point by its marks. Only more than one Two leads to a question on the lines.
+// The strict verdict at a point: asked where it is marked, else none.
 fn verdict_at(
     cells: &[u8],
     lines: &mut [u16; 144],
-    overlines: &[u16; 26],
-    fours: &[u16; 26],
-    twos: &[u16; 26],
+    built: bool,
+    asked: &[u16; 26],
     code: u8,
 ) -> Verdict
-    requires { ⌜ Cells (now cells) × (code < 225) × (T (openTo moreTwos (now cells) code) → now lines ≡ linesOf (now cells))
-        × (now overlines ≡ marks (openTo isOverline (now cells))) × (now fours ≡ marks (openTo isDoubleFour (now cells)))
-        × (now twos ≡ marks (openTo moreTwos (now cells))) ⌝ }
+    requires { ⌜ Cells (now cells) × (code < 225) × (T built → now lines ≡ linesOf (now cells))
+        × (now asked ≡ marks (askedAt (now cells))) ⌝ }
     ensures { λ r. ⌜ (r ≡ strictOf (now (cells .entry)) code) × (now (lines .exit) ≡ now (lines .entry)) ⌝ }
 {
-    if is_marked(overlines, code) {
-        return Verdict::Overline;
-    }
-    if is_marked(fours, code) {
-        return Verdict::DoubleFour;
-    }
-    if is_marked(twos, code) {
-        if double_three_on(lines, code) {
-            return Verdict::DoubleThree;
+    if is_marked(asked, code) {
+        if built {
+            return strict(lines, code);
         }
+        return strict_of(cells, code);
     }
     Verdict::None
 }

@@ -1,29 +1,29 @@
-// One point of a board given as cell bytes: only the four lines through it are read, until a nested question arises.
-use super::cycle::double_three;
-use super::look::Look;
-use super::look::look_at;
+// One point of a board given as cell bytes: only the four lines through it are read, unless there may be a trial.
+use super::cycle::strict_by;
 use grid::lines_of;
-use near::is_apart;
-use near::near_of;
-use near::step_in;
+use near::Rows;
+use near::more_than_one;
+use near::rows_near;
+use near::some_row;
 use point::cell_no;
 use point::line_no;
 use point::line_size;
+use point::step_in;
 use rules::Verdict;
 ghost use mathlib.Core.Path.{_≡_};
-ghost use mathlib.Core.Bool.{_&&_, _||_};
+ghost use mathlib.Core.Bool.{_&&_, _||_, cond};
 ghost use Prim.Native.Nat.{_<_};
 ghost use lib.Dec.{eqb};
-ghost use lib.ListN.{getD};
 ghost use Rattle.rules.specs.Bit.{bit, maskOf};
 ghost use Rattle.rules.specs.Point.{lineNo};
-ghost use Rattle.rules.specs.Grid.{rowsThrough, stoneAt};
-ghost use Rattle.rules.specs.Forbidden.{strictOf, isDoubleThree};
+ghost use Rattle.rules.specs.Grid.{stoneAt, startsOf};
+ghost use Rattle.rules.specs.Forbidden.{strictOf, someRow, moreThanOne};
 ghost use Rattle.rules.specs.declared.Player.the-variants.{Black, White};
-ghost use Rattle.rules.specs.declared.RowKind.the-variants.{Two};
-ghost use Rattle.near.specs.Places.{atPlace};
+ghost use Rattle.near.specs.Rows.{RowsAre};
+ghost use Rattle.lent.specs.Lists.{zeros};
+ghost use Rattle.grid.specs.Lines.{linesOf};
 ghost use Rattle.grid.proofs.Lines.{Cells};
-ghost use Rattle.referee.specs.Referee.{BlackNear, Looked};
+ghost use Rattle.referee.specs.Referee.{blackRows};
 
 // The masks of one line.
 struct LineStones {
@@ -31,57 +31,66 @@ struct LineStones {
     whites: u16,
 }
 
-// The strict verdict.
-pub(crate) fn strict_in(cells: &[u8], code: u8) -> Verdict
+// The strict verdict. Where no kind may apply it is none: that is seen first, so that not even room for lines is laid out. They are built
+// only where more than one Two may lead to a trial.
+pub(crate) fn strict_of(cells: &[u8], code: u8) -> Verdict
     requires { ⌜ Cells (now cells) × (code < 225) ⌝ }
     ensures { λ r. ⌜ r ≡ strictOf (now (cells .entry)) code ⌝ }
 {
     if cells[code as usize] != 0 {
         return Verdict::None;
     }
-    let seen = look_in(cells, code);
-    if seen.five {
-        return Verdict::None;
-    }
-    if seen.overline {
-        return Verdict::Overline;
-    }
-    if seen.double_four {
-        return Verdict::DoubleFour;
-    }
-    if double_three_in(cells, code, seen.blacks, seen.twos) {
-        return Verdict::DoubleThree;
+    let rows = rows_of(cells, code);
+    if may_forbid(rows) {
+        let twos = rows.twos;
+        let mut lines = lines_if(more_than_one(twos), cells);
+        return strict_by(&mut lines, code, rows);
     }
     Verdict::None
 }
 
-// Whether an empty point is a double three. The lines are built only where there is more than one Two.
-fn double_three_in(cells: &[u8], code: u8, blacks: u64, twos: u64) -> bool
-    requires { ⌜ Cells (now cells) × (code < 225) × (getD (now cells) code 0 ≡ 0) × BlackNear (now cells) code blacks
-        × (twos ≡ maskOf 64 (atPlace (rowsThrough Black Two (now cells) code) code)) ⌝ }
-    ensures { λ r. ⌜ r ≡ isDoubleThree strictOf (now (cells .entry)) code ⌝ }
+// The stored lines, where they are wanted.
+pub(crate) fn lines_if(wanted: bool, cells: &[u8]) -> [u16; 144]
+    ensures { λ r. ⌜ r ≡ cond wanted (linesOf (now (cells .entry))) (zeros 144) ⌝ }
 {
-    if is_apart(twos) {
-        let mut lines = lines_of(cells);
-        return double_three(&mut lines, code, blacks, twos);
+    if wanted {
+        return lines_of(cells);
     }
-    false
+    [0; 144]
 }
 
-// A look at a point of the cells.
-fn look_in(cells: &[u8], code: u8) -> Look
+// Whether some kind may apply, by the tests that need no nested question.
+fn may_forbid(rows: Rows) -> bool
+    ensures { λ r. ⌜ r ≡ (someRow (startsOf (rows .overlinings)) || moreThanOne (startsOf (rows .swords))
+        || moreThanOne (startsOf (rows .twos))) ⌝ }
+{
+    let overlinings = rows.overlinings;
+    let swords = rows.swords;
+    let twos = rows.twos;
+    if some_row(overlinings) {
+        return true;
+    }
+    if more_than_one(swords) {
+        return true;
+    }
+    more_than_one(twos)
+}
+
+// Black's rows through a point of the cells.
+fn rows_of(cells: &[u8], code: u8) -> Rows
     requires { ⌜ Cells (now cells) × (code < 225) ⌝ }
-    ensures { λ r. ⌜ Looked (now (cells .entry)) code r ⌝ }
+    ensures { λ r. ⌜ RowsAre (blackRows (now (cells .entry)) code) r ⌝ }
 {
     let v = stones_in(cells, 0, code);
     let h = stones_in(cells, 1, code);
     let a = stones_in(cells, 2, code);
     let d = stones_in(cells, 3, code);
-    look_at(near_of(
+    rows_near(
         [v.blacks, h.blacks, a.blacks, d.blacks],
         [v.whites, h.whites, a.whites, d.whites],
         code,
-    ))
+        true,
+    )
 }
 
 // The stones on the line through a point in one direction, cell by cell.

@@ -1,18 +1,22 @@
 // The referee on a lent board: thin functions, each of which lends the board's lines on for one call, and the trial made of them.
 use super::answer::VerdictAnswer;
-use super::cycle::put_black;
-use super::cycle::real_double_three;
+use super::on_lines::may_try;
 use super::on_lines::strict_on;
+use super::rows::put_black;
+use super::rows::real_on;
 use board::Board;
 use grid::remove_on;
+use rules::TestAnswer;
 ghost use mathlib.Core.Path.{_≡_};
 ghost use Prim.Native.Nat.{_<_};
 ghost use lib.ListN.{getD};
+ghost use Rattle.rules.specs.Answers.{testAnswer};
+ghost use Rattle.rules.specs.Grid.{isEmpty};
 ghost use Rattle.rules.specs.Forbidden.{withBlack, strictOf, realDouble};
-ghost use Rattle.grid.specs.Lines.{cellsOf, Sound};
+ghost use Rattle.grid.specs.Lines.{Sound};
 ghost use Rattle.board.specs.Boards.{cells, refusalAt};
-ghost use Rattle.referee.specs.Referee.{writtenBoard};
-ghost use Rattle.referee.specs.Answers.{verdictAnswer};
+ghost use Rattle.referee.specs.Referee.{writtenBoard, doubleThreeAt};
+ghost use Rattle.referee.specs.Answers.{verdictAnswer, isYes};
 
 // Black's trial stone put on a lent board.
 pub(crate) fn put_in(b: &mut Board, code: u8)
@@ -26,7 +30,7 @@ pub(crate) fn ask_in(b: &mut Board, code: u8) -> bool
     requires { ⌜ Sound (now b .lines) × (code < 225) ⌝ }
     ensures { λ r. ⌜ (r ≡ realDouble strictOf (cells (now (b .entry))) code) × (now (b .exit) ≡ now (b .entry)) ⌝ }
 {
-    real_double_three(&mut b.lines, code)
+    real_on(&mut b.lines, code)
 }
 
 // The stone taken off again.
@@ -47,21 +51,35 @@ pub(crate) fn trial_in(b: &mut Board, code: u8) -> bool
     real
 }
 
-// The board with these lines.
-pub(crate) fn board_of(lines: &[u16; 144]) -> Board
-    ensures { λ r. ⌜ r .lines ≡ now (lines .entry) ⌝ }
+// Whether a stone may be tried at a point of a lent board, which it may where the point is empty, with the refusals.
+pub(crate) fn may_try_in(b: &mut Board, code: u8) -> TestAnswer
+    ensures { λ r. ⌜ (r ≡ testAnswer (refusalAt (now (b .entry)) code) (isEmpty (getD (cells (now (b .entry))) code 0)))
+        × (now (b .exit) ≡ now (b .entry)) ⌝ }
 {
-    let copied = *lines;
-    Board { lines: copied }
+    may_try(&mut b.lines, code)
 }
 
-// The trial on a copy of some lines. No reference to a board stands in its signature, so whoever calls it needs no walk by hand.
-pub(crate) fn tried(lines: &[u16; 144], code: u8) -> bool
-    requires { ⌜ Sound (now lines) × (code < 225) × (getD (cellsOf (now lines)) code 0 ≡ 0) ⌝ }
-    ensures { λ r. ⌜ r ≡ realDouble strictOf (withBlack (cellsOf (now (lines .entry))) code) code ⌝ }
+// Whether a test was answered, and by yes.
+fn is_yes(answer: TestAnswer) -> bool
+    ensures { λ r. ⌜ r ≡ isYes answer ⌝ }
 {
-    let mut b = board_of(lines);
-    trial_in(&mut b, code)
+    match answer {
+        TestAnswer::Is(yes) => yes,
+        TestAnswer::Refused(_) => false,
+    }
+}
+
+// Whether the point is empty and a double three for Black, whatever other kind it is, with the refusals. The stone is tried on the lent
+// board itself. That there is more than one Two is not tested first: the Threes through the stone are the Twos before it.
+pub fn is_double_three_in(b: &mut Board, code: u8) -> TestAnswer
+    ensures { λ r. ⌜ (r ≡ testAnswer (refusalAt (now (b .entry)) code) (doubleThreeAt (cells (now (b .entry))) code))
+        × (now (b .exit) ≡ now (b .entry)) ⌝ }
+{
+    let may = may_try_in(b, code);
+    if is_yes(may) {
+        return TestAnswer::Is(trial_in(b, code));
+    }
+    may
 }
 
 // The strict verdict at a point of a lent board, with its refusals.

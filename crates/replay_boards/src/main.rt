@@ -11,12 +11,12 @@ mod views;
 
 use boards::replay_board;
 use libc::STDIN_FILENO;
+use libc::STDOUT_FILENO;
 use listed::replay_list;
 use records::Tally;
 use records::byte_at;
 use records::line_at;
 use records::next_line;
-use records::say;
 use records::say_end;
 use records::say_tally;
 use records::shown;
@@ -28,7 +28,7 @@ fn main() {
     let mut text = room();
     let n = io::read_full(STDIN_FILENO, &mut text);
     if n == text.len() {
-        say(b"more than there is room for\n");
+        io::write_all(STDOUT_FILENO, b"more than there is room for\n");
         return;
     }
     report(&text[..n]);

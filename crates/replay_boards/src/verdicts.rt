@@ -7,12 +7,14 @@ use host::renju_forbidden_strict;
 use records::Tally;
 use records::byte_at;
 use records::refusal_word;
+use referee::VerdictAnswer;
+use referee::forbidden_strict;
 use referee::is_double_three;
 use rules::TestAnswer;
 use text::head;
 
-// The verdict of every code. Cells that are no board's are refused, before a code is. Beside the plain verdicts also whether a double three
-// is there, asked alone.
+// The verdict of every code. Cells that are no board's are refused, before a code is. The board by value is asked too, which is lent to the
+// referee: for its strict verdicts, and beside the plain ones whether a double three is there, asked alone.
 pub(crate) fn replay_verdicts(t: Tally, block: &[u8], record: &[u8]) -> Tally {
     let cells = cells_of(block);
     let spoilt = with_cell(cells, 224, 3);
@@ -22,10 +24,7 @@ pub(crate) fn replay_verdicts(t: Tally, block: &[u8], record: &[u8]) -> Tally {
     let asked = replay_codes(t, &cells, record)
         .answer(ask(&spoilt, record, 0) == refusal_word(9))
         .answer(ask(head(&cells, 224), record, 225) == refusal_word(9));
-    match byte_at(record, 0) {
-        b'p' => replay_doubles(asked, &cells, record),
-        _ => asked,
-    }
+    replay_by_value(asked, &cells, record)
 }
 
 fn replay_codes(before: Tally, cells: &[u8], record: &[u8]) -> Tally {
@@ -60,7 +59,8 @@ fn word_at(record: &[u8], code: u8) -> u32 {
     }
 }
 
-fn replay_doubles(before: Tally, cells: &[u8], record: &[u8]) -> Tally {
+// What is asked of the board by value at every point.
+fn replay_by_value(before: Tally, cells: &[u8], record: &[u8]) -> Tally {
     let made = Board::from_cells(cells);
     if made.refused != 0 {
         return before.answer(false);
@@ -68,9 +68,24 @@ fn replay_doubles(before: Tally, cells: &[u8], record: &[u8]) -> Tally {
     let board = made.board;
     let mut t = before;
     for code in 0u8..225 {
-        t = replay_double(t, is_double_three(board, code), word_at(record, code));
+        t = replay_point(t, board, record, code);
     }
     t
+}
+
+fn replay_point(t: Tally, board: Board, record: &[u8], code: u8) -> Tally {
+    let word = word_at(record, code);
+    match byte_at(record, 0) {
+        b's' => t.answer(verdict_word(forbidden_strict(board, code)) == word),
+        _ => replay_double(t, is_double_three(board, code), word),
+    }
+}
+
+fn verdict_word(answer: VerdictAnswer) -> u32 {
+    match answer {
+        VerdictAnswer::Is(verdict) => verdict.number() as u32,
+        VerdictAnswer::Refused(n) => refusal_word(n),
+    }
 }
 
 // Where the plain verdict is a double three, it is one; where it is none, or a stone is there, not. A kind that comes before hides it.

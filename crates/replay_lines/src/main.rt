@@ -9,6 +9,7 @@ mod segments;
 
 use cells::replay_cell;
 use libc::STDIN_FILENO;
+use libc::STDOUT_FILENO;
 use lines::replay_eyes;
 use lines::replay_line;
 use lines::replay_number;
@@ -16,7 +17,6 @@ use records::Tally;
 use records::byte_at;
 use records::line_at;
 use records::next_line;
-use records::say;
 use records::say_end;
 use records::say_tally;
 use records::shown;
@@ -28,7 +28,7 @@ fn main() {
     let mut text = room();
     let n = io::read_full(STDIN_FILENO, &mut text);
     if n == text.len() {
-        say(b"more than there is room for\n");
+        io::write_all(STDOUT_FILENO, b"more than there is room for\n");
         return;
     }
     report(&text[..n]);

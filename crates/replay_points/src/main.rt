@@ -4,6 +4,7 @@ mod answers;
 mod points;
 
 use libc::STDIN_FILENO;
+use libc::STDOUT_FILENO;
 use points::replay_address;
 use points::replay_cell;
 use points::replay_key;
@@ -11,7 +12,6 @@ use records::Tally;
 use records::byte_at;
 use records::line_at;
 use records::next_line;
-use records::say;
 use records::say_end;
 use records::say_tally;
 use records::shown;
@@ -20,7 +20,7 @@ fn main() {
     let mut text = io::large_buffer();
     let n = io::read_full(STDIN_FILENO, &mut text);
     if n == text.len() {
-        say(b"more than there is room for\n");
+        io::write_all(STDOUT_FILENO, b"more than there is room for\n");
         return;
     }
     report(&text[..n]);

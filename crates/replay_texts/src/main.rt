@@ -11,6 +11,7 @@ mod writing;
 
 use fields::is_whole;
 use libc::STDIN_FILENO;
+use libc::STDOUT_FILENO;
 use lines::replay_line;
 use lines::replay_read_line;
 use lines::replay_segment;
@@ -23,7 +24,6 @@ use records::Tally;
 use records::byte_at;
 use records::line_at;
 use records::next_line;
-use records::say;
 use records::say_end;
 use records::say_tally;
 use records::shown;
@@ -34,7 +34,7 @@ fn main() {
     let mut text = room();
     let n = io::read_full(STDIN_FILENO, &mut text);
     if n == text.len() {
-        say(b"more than there is room for\n");
+        io::write_all(STDOUT_FILENO, b"more than there is room for\n");
         return;
     }
     report(&text[..n]);

@@ -1,13 +1,14 @@
 -- The laws of points, lines and keys, most of them tests that antt computes at every place. Assumes nothing.
 use mathlib.Core.Path.{_≡_, refl}
 use mathlib.Core.Bool.{Bool, true, false, Bool·beq, _&&_, cond}
-use Prim.Native.Nat.{ℕ, zero, suc, _+_, _-_, _≤_, _<_}
+use Prim.Native.Nat.{ℕ, zero, suc, _+_, _-_, _*_, _≤_, _<_}
 use native.Mathlib.Omega.{arith}
-use lib.Dec.{T, eqb, ltb, leb, eqb→eq, ltb→lt, leb→le}
+use lib.Dec.{T, eqb, ltb, leb, eqb→eq, ltb→lt, leb→le, lt→ltb}
 use borrow.Author.Tests.{ltb-true, ltb-false}
 use Rattle.rules.specs.Tools.{allBelow}
-use Rattle.rules.specs.Point.{xOf, yOf, codeOf, lineNo, cellNo, lineCount, lineSize, pointAt, stored, keyOf, keyDir, keyNo, keySize}
-use Rattle.rules.proofs.Logic.{all-elim, all2, implies, implied}
+use Rattle.rules.specs.Point.{xOf, yOf, codeOf, lineNo, cellNo, lineCount, lineSize, pointAt, stepOf}
+use Rattle.rules.specs.Point.{stored, keyOf, keyDir, keyNo, keySize}
+use Rattle.rules.proofs.Logic.{all-elim, all2, all3, implies, implied}
 use Rattle.rules.proofs.Tables.{beq-eq}
 
 -- ---- codes
@@ -86,6 +87,31 @@ line-there d i j hd hi hj = eqb→eq (lineNo d (pointAt d i j)) i (at-cell (λ d
 pub cell-there : (d i j : ℕ) → d < 4 → i < lineCount d → j < lineSize d i → cellNo d (pointAt d i j) ≡ j
 unfolding allBelow pointAt cellNo lineCount lineSize
 cell-there d i j hd hi hj = eqb→eq (cellNo d (pointAt d i j)) j (at-cell (λ d i j. eqb (cellNo d (pointAt d i j)) j) tt d i j hd hi hj)
+
+-- ---- steps: from p back to the line's first cell, and on
+
+pub step-le : (d : ℕ) → stepOf d ≤ 16
+step-le zero = omega arith
+step-le (suc zero) = omega arith
+step-le (suc (suc zero)) = omega arith
+step-le (suc (suc (suc d))) = omega arith
+
+abbrev pub walkTo : ℕ → ℕ → ℕ → ℕ
+walkTo d p j = p - cellNo d p * stepOf d + stepOf d * j
+
+module _ (d p : ℕ) (hd : d < 4) (hp : p < 225) where
+  pub step-back : cellNo d p * stepOf d ≤ p
+  unfolding allBelow cellNo
+  step-back = leb→le (cellNo d p * stepOf d) p (all2 4 225 (λ d p. leb (cellNo d p * stepOf d) p) tt d p hd hp)
+
+  pub step-at : (j : ℕ) → j < lineSize d (lineNo d p) → walkTo d p j ≡ pointAt d (lineNo d p) j
+  unfolding allBelow lineNo cellNo lineSize pointAt
+  step-at j hj =
+      eqb→eq (walkTo d p j) (pointAt d (lineNo d p) j)
+      (implied (ltb j (lineSize d (lineNo d p))) (eqb (walkTo d p j) (pointAt d (lineNo d p) j))
+      (all3 4 225 15 (λ d p j. implies (ltb j (lineSize d (lineNo d p))) (eqb (walkTo d p j) (pointAt d (lineNo d p) j))) tt d p j
+      hd hp (omega (arith, size-le d (lineNo d p))))
+      (lt→ltb j (lineSize d (lineNo d p)) hj))
 
 -- ---- keys
 

@@ -57,7 +57,7 @@ module _ (s : ℕ → Bool) where
       ⊎-elim (λ p. ⊎-elim (λ q. omega arith) (λ q. omega arith) y) (λ p. ⊎-elim (λ q. omega arith) (λ q. omega arith) y) x
 
   -- where no two are, the first start j has them all in {j, j+1}
-  from-first : T (not (apart s)) → First s 16 → T (anyBelow 16 (within s))
+  from-first : T (not (apart 16 s)) → First s 16 → T (anyBelow 16 (within s))
   unfolding within First
   from-first n f =
       let j = f .0 in
@@ -67,7 +67,7 @@ module _ (s : ℕ → Bool) where
       at : (k : ℕ) → k < 16 → T (s k) → Dec (f .0 ≤ k) → Dec (f .0 + 2 ≤ k) → T (eqb k (f .0) || eqb k (f .0 + 1))
       at k hk u (no l) m = absurd (f .3 k (omega arith) u)
       at k hk u (yes l) (yes m) =
-          absurd (not-elim (apart s) n (apart-intro s (record { j = f .0; k = k; far = m; k-lt = hk; here = f .2; there = u })))
+          absurd (not-elim (apart 16 s) n (apart-intro 16 s (record { j = f .0; k = k; far = m; k-lt = hk; here = f .2; there = u })))
       at k hk u (yes l) (no m) = one (ℕ-discrete k (f .0))
         where
           one : Dec (k ≡ f .0) → T (eqb k (f .0) || eqb k (f .0 + 1))
@@ -82,12 +82,12 @@ module _ (s : ℕ → Bool) where
       (λ u. absurd (not-elim (anyBelow 16 s) (false-not e) (any-intro 16 s k hk u)))))
 
   -- THE LAW: the starts are apart where no {j, j+1} contains them
-  pub apart-says : apart s ≡ not (anyBelow 16 (within s))
+  pub apart-says : apart 16 s ≡ not (anyBelow 16 (within s))
   apart-says =
-      both-ways (apart s) (not (anyBelow 16 (within s)))
-      (λ t. not-intro (anyBelow 16 (within s)) (λ u. let a = any-elim 16 (within s) u in not-within (apart-elim s t) (a .0) (a .2)))
-      (λ t. not-not (apart s) (λ n. not-elim (anyBelow 16 (within s)) t (contained n (decide (anyBelow 16 s)))))
+      both-ways (apart 16 s) (not (anyBelow 16 (within s)))
+      (λ t. not-intro (anyBelow 16 (within s)) (λ u. let a = any-elim 16 (within s) u in not-within (apart-elim 16 s t) (a .0) (a .2)))
+      (λ t. not-not (apart 16 s) (λ n. not-elim (anyBelow 16 (within s)) t (contained n (decide (anyBelow 16 s)))))
     where
-      contained : T (not (apart s)) → (anyBelow 16 s ≡ true) ⊎ (anyBelow 16 s ≡ false) → T (anyBelow 16 (within s))
+      contained : T (not (apart 16 s)) → (anyBelow 16 s ≡ true) ⊎ (anyBelow 16 s ≡ false) → T (anyBelow 16 (within s))
       contained n (inl e) = from-first n (first 16 s (true-T e))
       contained n (inr e) = none-within e

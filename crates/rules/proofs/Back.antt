@@ -71,11 +71,11 @@ module _ (n c : ℕ) (row : ℕ → Bool) where
         let (k, h, u) = any-elim n back t in
         any-intro 16 from (c - k) (back-low k u) (back-from k h u))
 
-    pub apart-back : apart from ≡ anyBelow n backs
+    pub apart-back : apart 16 from ≡ anyBelow n backs
     apart-back =
-        both-ways (apart from) (anyBelow n backs)
+        both-ways (apart 16 from) (anyBelow n backs)
         (λ t.
-        let w = apart-elim from t in
+        let w = apart-elim 16 from t in
         let r = reached (w .j) (w .here) in
         let s = reached (w .k) (w .there) in
         let far = w .far in
@@ -95,7 +95,7 @@ module _ (n c : ℕ) (row : ℕ → Bool) where
         let second : T (back l) = and-right (leb (k + 2) l) (back l) v in
         let far : k + 2 ≤ l = leb→le (k + 2) l (and-left (leb (k + 2) l) (back l) v) in
         let le : l ≤ c = back-le l second in
-        apart-intro from
+        apart-intro 16 from
         (record {
           j = c - l;
           k = c - k;

@@ -9,7 +9,8 @@ use lib.ListN.{length, getD, length-set}
 use Rattle.rules.specs.Numbers.{isNone}
 use Rattle.rules.specs.Point.{lineNo, pointAt}
 use Rattle.rules.specs.Grid.{isEmpty, empties, rowsThrough, eyeOn}
-use Rattle.rules.specs.Forbidden.{Ask, moreThanOne, isReal, realThrees, withBlack, isOverline, isDoubleFour, isDoubleThree, plainWith}
+use Rattle.rules.specs.Forbidden.{Ask, moreThanOne, mayPlay, isReal, realThrees, withBlack}
+use Rattle.rules.specs.Forbidden.{isOverline, isDoubleFour, isDoubleThree, plainWith}
 use Rattle.rules.specs.Forbidden.{completesFive, strictWith, strictN, strictOf, plainOf}
 use Rattle.rules.specs.declared.Player.the-variants.{Black}
 use Rattle.rules.specs.declared.RowKind.the-variants.{Two, Three}
@@ -21,6 +22,11 @@ use Rattle.rules.proofs.Changes.{empties-put}
 use Rattle.rules.proofs.More.{more-mono}
 use Rattle.rules.proofs.Rows.{eye-inside}
 
+-- whether Black may play there is told by the answer there
+pub may-same : (ask ask′ : Ask) (cells : List ℕ) (e : ℕ) → ask cells e ≡ ask′ cells e → mayPlay ask cells e ≡ mayPlay ask′ cells e
+unfolding mayPlay
+may-same ask ask′ cells e q = ap isNone q
+
 -- ---- the plain verdict asks only about the board with Black at p, at points of the board
 
 module _ (cells : List ℕ) (p : ℕ) (hp : p < 225) (ask ask′ : Ask) (same : (e : ℕ) → e < 225 → ask cells e ≡ ask′ cells e) where
@@ -28,13 +34,13 @@ module _ (cells : List ℕ) (p : ℕ) (hp : p < 225) (ask ask′ : Ask) (same : 
   unfolding isReal
   real-same d j hd u =
       let i = lineNo d p in
-      let a = any-elim 16 (λ e. eyeOn Black Three cells d i j e && isNone (ask cells (pointAt d i e))) u in
+      let a = any-elim 16 (λ e. eyeOn Black Three cells d i j e && mayPlay ask cells (pointAt d i e)) u in
       let e = a .0 in
-      let hi = eye-inside Black Three cells d i j e (and-left (eyeOn Black Three cells d i j e) (isNone (ask cells (pointAt d i e)))
+      let hi = eye-inside Black Three cells d i j e (and-left (eyeOn Black Three cells d i j e) (mayPlay ask cells (pointAt d i e))
       (a .2)) in
-      any-intro 16 (λ e. eyeOn Black Three cells d i j e && isNone (ask′ cells (pointAt d i e))) e (a .1)
-      (subst (λ (v : Verdict). T (eyeOn Black Three cells d i j e && isNone v))
-      (same (pointAt d i e) (point-lt d i e hd (line-here d p hd hp) hi)) (a .2))
+      any-intro 16 (λ e. eyeOn Black Three cells d i j e && mayPlay ask′ cells (pointAt d i e)) e (a .1)
+      (subst (λ (b : Bool). T (eyeOn Black Three cells d i j e && b))
+      (may-same ask ask′ cells (pointAt d i e) (same (pointAt d i e) (point-lt d i e hd (line-here d p hd hp) hi))) (a .2))
 
   real-moves : (d j : ℕ) → d < 4 → T (realThrees ask cells p d j) → T (realThrees ask′ cells p d j)
   unfolding realThrees

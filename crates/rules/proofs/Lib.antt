@@ -14,9 +14,12 @@ pub mod Apart
 pub mod Back
 pub mod Changes
 pub mod Rows
+pub mod Starts
 pub mod Eye
+pub mod Gap
 pub mod Grown
 pub mod Fuel
+pub mod Verdicts
 pub mod Eight
 pub mod Views
 pub mod Cases

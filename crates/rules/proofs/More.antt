@@ -85,12 +85,9 @@ two-intro s w =
     (not-intro (eqb (w .d1) (w .d2)) (λ q. w .differ (eqb→eq (w .d1) (w .d2) q)))
     (any-intro 16 (s (w .d2)) (w .j2) (w .j2-lt) (w .there)))))
 
--- "a set not contained in {j, j+1}", of the first w starts
-abbrev pub apartIn : ℕ → (ℕ → Bool) → Bool
-apartIn w s = anyBelow w (λ j. s j && anyBelow w (λ k. leb (j + 2) k && s k))
-
-pub apartIn-elim : (w : ℕ) (s : ℕ → Bool) → T (apartIn w s) → TwoWithin w s
-apartIn-elim w s t =
+pub apart-elim : (w : ℕ) (s : ℕ → Bool) → T (apart w s) → TwoWithin w s
+unfolding apart
+apart-elim w s t =
     let a = any-elim w (λ j. s j && anyBelow w (λ k. leb (j + 2) k && s k)) t in
     let j = a .0 in
     let b = any-elim w (λ k. leb (j + 2) k && s k) (and-right (s j) (anyBelow w (λ k. leb (j + 2) k && s k)) (a .2)) in
@@ -104,8 +101,9 @@ apartIn-elim w s t =
       there = and-right (leb (j + 2) k) (s k) (b .2);
     }
 
-pub apartIn-intro : (w : ℕ) (s : ℕ → Bool) → TwoWithin w s → T (apartIn w s)
-apartIn-intro w s p =
+pub apart-intro : (w : ℕ) (s : ℕ → Bool) → TwoWithin w s → T (apart w s)
+unfolding apart
+apart-intro w s p =
     let hf = p .far in
     let hk = p .k-lt in
     any-intro w (λ j. s j && anyBelow w (λ k. leb (j + 2) k && s k)) (p .j) (omega arith)
@@ -113,29 +111,22 @@ apartIn-intro w s p =
     (any-intro w (λ k. leb (p .j + 2) k && s k) (p .k) hk
     (and-intro (leb (p .j + 2) (p .k)) (s (p .k)) (le→leb (p .j + 2) (p .k) hf) (p .there))))
 
-pub apart-elim : (s : ℕ → Bool) → T (apart s) → TwoApart s
-unfolding apart
-apart-elim s t = apartIn-elim 16 s t
-
-pub apart-intro : (s : ℕ → Bool) → TwoApart s → T (apart s)
-unfolding apart
-apart-intro s p = apartIn-intro 16 s p
-
 pub more-elim : (s : Starts) → T (moreThanOne s) → TwoLines s ⊎ ((d : ℕ) × (d < 4) × TwoApart (s d))
 unfolding moreThanOne
 more-elim s t =
-    elim (or-cases (onTwoLines s) (anyBelow 4 (λ d. apart (s d))) t) [
+    elim (or-cases (onTwoLines s) (anyBelow 4 (λ d. apart 16 (s d))) t) [
       | inl u ↦ inl (two-elim s u)
-      | inr u ↦ let a = any-elim 4 (λ d. apart (s d)) u in inr (a .0, a .1, apart-elim (s (a .0)) (a .2))
+      | inr u ↦ let a = any-elim 4 (λ d. apart 16 (s d)) u in inr (a .0, a .1, apart-elim 16 (s (a .0)) (a .2))
     ]
 
 pub more-lines : (s : Starts) → TwoLines s → T (moreThanOne s)
 unfolding moreThanOne
-more-lines s w = or-left (onTwoLines s) (anyBelow 4 (λ d. apart (s d))) (two-intro s w)
+more-lines s w = or-left (onTwoLines s) (anyBelow 4 (λ d. apart 16 (s d))) (two-intro s w)
 
 pub more-apart : (s : Starts) (d : ℕ) → d < 4 → TwoApart (s d) → T (moreThanOne s)
 unfolding moreThanOne
-more-apart s d hd w = or-right (onTwoLines s) (anyBelow 4 (λ d. apart (s d))) (any-intro 4 (λ d. apart (s d)) d hd (apart-intro (s d) w))
+more-apart s d hd w = or-right (onTwoLines s) (anyBelow 4 (λ d. apart 16 (s d)))
+    (any-intro 4 (λ d. apart 16 (s d)) d hd (apart-intro 16 (s d) w))
 
 -- starts carried from s to s′, direction by direction, some of them the other way round
 pub record Carried (s s′ : Starts) : Type 0 where

@@ -6,8 +6,9 @@ use lib.Dec.{leb, eqb}
 use lib.ListN.{getD}
 use Rattle.rules.specs.Numbers.{verdictNo, isNone}
 use Rattle.rules.specs.Tools.{anyBelow, gather, only}
+use Rattle.rules.specs.Line.{Stones}
 use Rattle.rules.specs.Point.{lineNo, pointAt}
-use Rattle.rules.specs.Grid.{isEmpty, put, empties, Starts, rowsThrough, eyeOn}
+use Rattle.rules.specs.Grid.{isEmpty, put, empties, stoneAt, Starts, rowsThrough, eyeOn}
 use Rattle.rules.specs.declared.Player.the-variants.{Black}
 use Rattle.rules.specs.declared.RowKind.the-variants.{Two, Three, Sword, Four, Overlining}
 use Rattle.rules.specs.declared.Verdict.{Verdict}
@@ -27,13 +28,14 @@ someRow s = anyBelow 4 (λ d. someStart (s d))
 unfoldable pub onTwoLines : Starts → Bool
 onTwoLines s = anyBelow 4 (λ d. someStart (s d) && anyBelow 4 (λ e. not (eqb d e) && someStart (s e)))
 
--- "on one line a set not contained in {j, j+1}": two starts that are two or more apart (proofs/Apart.antt, apart-says: the same thing)
-unfoldable pub apart : (ℕ → Bool) → Bool
-apart s = anyBelow 16 (λ j. s j && anyBelow 16 (λ k. leb (j + 2) k && s k))
+-- "on one line a set not contained in {j, j+1}": two starts, of those below w, that are two or more apart (proofs/Apart.antt, apart-says:
+-- the same thing)
+unfoldable pub apart : ℕ → (ℕ → Bool) → Bool
+apart w s = anyBelow w (λ j. s j && anyBelow w (λ k. leb (j + 2) k && s k))
 
 -- ""More than one" means starts on two lines, or on one line a set not contained in {j, j+1}."
 unfoldable pub moreThanOne : Starts → Bool
-moreThanOne s = onTwoLines s || anyBelow 4 (λ d. apart (s d))
+moreThanOne s = onTwoLines s || anyBelow 4 (λ d. apart 16 (s d))
 
 -- ---- the three kinds; `ask` is the strict verdict that a nested question is answered by
 
@@ -44,11 +46,23 @@ Ask = List ℕ → ℕ → Verdict
 abbrev pub withBlack : List ℕ → ℕ → List ℕ
 withBlack cells p = put Black cells p
 
+-- May Black play there? "the strict verdict .. is none": so an eye that completes a five "counts as playable".
+unfoldable pub mayPlay : Ask → List ℕ → ℕ → Bool
+mayPlay ask cells p = isNone (ask cells p)
+
 -- "A Three is real when the strict verdict at its one eye, on that board, is none." The Three stands at start j of the line through p;
--- it has one eye (proofs/Eye.antt). "So an eye that completes a five counts as playable": there the strict verdict is none.
+-- it has one eye (proofs/Eye.antt).
 unfoldable pub isReal : Ask → List ℕ → ℕ → Starts
 isReal ask cells p d j =
-    anyBelow 16 (λ e. eyeOn Black Three cells d (lineNo d p) j e && isNone (ask cells (pointAt d (lineNo d p) e)))
+    anyBelow 16 (λ e. eyeOn Black Three cells d (lineNo d p) j e && mayPlay ask cells (pointAt d (lineNo d p) e))
+
+-- the first of the cells j to j + 2 that has no stone, else j + 3: of a Three at start j this is its one eye (proofs/Gap.antt)
+unfoldable pub gapFrom : Stones → ℕ → ℕ
+gapFrom own j = cond (own j) (cond (own (j + 1)) (cond (own (j + 2)) (j + 3) (j + 2)) (j + 1)) j
+
+-- the point there, of the line through p in direction d
+unfoldable pub eyeOf : List ℕ → ℕ → ℕ → ℕ → ℕ
+eyeOf cells p d j = pointAt d (lineNo d p) (gapFrom (stoneAt Black cells d (lineNo d p)) j)
 
 -- the real Threes through p
 unfoldable pub realThrees : Ask → List ℕ → ℕ → Starts
@@ -66,16 +80,28 @@ isDoubleFour cells p = moreThanOne (rowsThrough Black Sword cells p)
 abbrev pub realDouble : Ask → List ℕ → ℕ → Bool
 realDouble ask cells p = moreThanOne (realThrees ask cells p)
 
+-- "more than one Two through p"
+abbrev pub moreTwos : List ℕ → ℕ → Bool
+moreTwos cells p = moreThanOne (rowsThrough Black Two cells p)
+
 -- "DoubleThree: more than one Two through p, and on the board with Black at p more than one real Three through p."
 unfoldable pub isDoubleThree : Ask → List ℕ → ℕ → Bool
-isDoubleThree ask cells p = moreThanOne (rowsThrough Black Two cells p) && realDouble ask (withBlack cells p) p
+isDoubleThree ask cells p = moreTwos cells p && realDouble ask (withBlack cells p) p
+
+-- Some kind may apply at p, by the tests that need no nested question. Where none of them passes the verdict is none (proofs/Verdicts.antt,
+-- quiet-none), so that a point is asked about only where one does.
+unfoldable pub mayForbid : List ℕ → ℕ → Bool
+mayForbid cells p = isOverline cells p || isDoubleFour cells p || moreTwos cells p
 
 -- ---- the verdicts
 
--- "The plain verdict at an empty p, first that applies". "Nothing is asked after the first kind that applies."
+-- "first that applies": Overline, DoubleFour, DoubleThree. "Nothing is asked after the first kind that applies."
+abbrev pub firstKind : Bool → Bool → Bool → Verdict
+firstKind o f t = cond o Overline (cond f DoubleFour (cond t DoubleThree None))
+
+-- "The plain verdict at an empty p, first that applies"
 unfoldable pub plainWith : Ask → Ask
-plainWith ask cells p =
-    cond (isOverline cells p) Overline (cond (isDoubleFour cells p) DoubleFour (cond (isDoubleThree ask cells p) DoubleThree None))
+plainWith ask cells p = firstKind (isOverline cells p) (isDoubleFour cells p) (isDoubleThree ask cells p)
 
 -- "a black Four goes through p (p completes a five)"
 unfoldable pub completesFive : List ℕ → ℕ → Bool

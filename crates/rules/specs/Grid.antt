@@ -6,7 +6,8 @@ use Prim.Native.Nat.{ℕ, suc, _+_, _-_}
 use lib.Dec.{leb, ltb, eqb}
 use lib.ListN.{getD, set}
 use Rattle.rules.specs.Numbers.{colourNo, isBlack, opponentOf}
-use Rattle.rules.specs.Tools.{gather, only}
+use Rattle.rules.specs.Tools.{tab, gather, only}
+use Rattle.rules.specs.Bit.{bit, maskOf}
 use Rattle.rules.specs.Line.{Stones, rowAt, through, isEye, eyeOfSome, stonesMask, eyesMask}
 use Rattle.rules.specs.Point.{lineNo, cellNo, lineSize, pointAt, keyDir, keyNo, keyOf}
 use Rattle.rules.specs.declared.Player.{Player}
@@ -75,6 +76,14 @@ eyeOn r k cells d i j e = isEye (lineSize d i) (stoneAt r cells d i) (stoneAt (o
 -- the starts on the four lines through a point: direction, start → whether there is a row
 abbrev pub Starts : Type 0
 Starts = ℕ → ℕ → Bool
+
+-- "four start masks travel together, one for each direction": bit j of mask d is start j of the line in direction d
+unfoldable pub startMasks : Starts → List ℕ
+startMasks s = tab 4 (λ d. maskOf 16 (s d))
+
+-- and back: the starts that four masks name. A line has at most 15 cells, so bit 15 names none.
+unfoldable pub startsOf : List ℕ → Starts
+startsOf masks d j = ltb j 15 && bit (getD masks d 0) j
 
 -- the player's rows of the kind through p, by direction and start. (A diagonal too short to be stored has no window, so no row.)
 unfoldable pub rowsThrough : Player → RowKind → List ℕ → ℕ → Starts

@@ -48,6 +48,10 @@ pointAt d i j =
     (cond (ltb i 14) (codeOf j (14 - i + j)) (codeOf (i + j - 14) j))
     (cond (ltb i 14) (codeOf j (i - j)) (codeOf (i + j - 14) (14 - j)))
 
+-- from one cell of a line to the next the code grows by this (proofs/Address.antt, step-at)
+abbrev pub stepOf : ℕ → ℕ
+stepOf d = byDirection d 1 15 16 14
+
 -- ---- stored lines and their keys
 
 -- "only 4 to 24 are stored, 21 each way"

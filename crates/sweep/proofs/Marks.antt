@@ -10,8 +10,7 @@ use native.Mathlib.Decide.{ℕ-discrete}
 use lib.Dec.{T, eqb, eqb→eq, lit<, leb, ltb, leb→le, le→leb, ltb→lt, lt→ltb}
 use lib.ListN.{length, getD, set, length-set}
 use lib.Seq.{getD-set-same, getD-set-other}
-use lib.Bits.{bitAnd, bitOr, and-lt, or-lt}
-use lib.Pow.{ones-sub-lt}
+use lib.Bits.{bitAnd, bitOr, and-lt}
 use borrow.Author.Tests.{le-leb, lt-ltb, le-ltb, ltb-true, ltb-false, eq-eqb, ne-eqb}
 use Rattle.rules.specs.Tools.{anyBelow}
 use Rattle.rules.specs.Bit.{bit, maskOf}
@@ -20,13 +19,12 @@ use Rattle.rules.proofs.Logic.{decide, both-ways, true-T, not-false, false-not,
 use Rattle.rules.proofs.Logic.{T-true, any-intro, along, and-flip, and-same}
 use Rattle.masks.proofs.Windows.{and-on, and-off}
 use Rattle.rules.proofs.Address.{x-of-code, y-of-code, code-of-xy}
-use Rattle.rules.proofs.Tables.{table3}
 use Rattle.rules.proofs.Bits.{bit-and, bit-or, bit-not, bit-ones, bit-mask, bits-of, mask-ext, mask-cong, mask-lt, mask-none, mask-or}
 use Rattle.rules.proofs.Lists.{length-tab, getD-tab, is-tab, tab-cong}
 use Rattle.lent.specs.Lists.{zeros}
 use Rattle.lent.proofs.Laws.{length-zeros, zeros-at}
 use Rattle.grid.proofs.Filled.{filled, filled-none, filled-skip, filled-more}
-use Rattle.sweep.specs.Marks.{onBoard, rowOf, marks, isMarked, Marked, everyPoint, codesBelow, openIn, Says}
+use Rattle.sweep.specs.Marks.{onBoard, rowOf, marks, isMarked, Marked, everyPoint, codesBelow, Says}
 
 -- ---- the points of the board
 
@@ -76,12 +74,16 @@ row-bit f i x =
     ap (λ (g : ℕ → Bool). g x)
     (bits-of 16 (λ x. onBoard i x && f (codeOf x (i - 5))) (λ j h. sym (and-off (onBoard i j) _ (off-column i j (omega arith)))))
 
-pub marks-row : (f : ℕ → Bool) (i : ℕ) → i < 26 → getD (marks f) i 0 ≡ rowOf f i
+pub marks-row : {m : List ℕ} (f : ℕ → Bool) → m ≡ marks f → (i : ℕ) → i < 26 → getD m i 0 ≡ rowOf f i
 unfolding marks
-marks-row f i h = getD-tab 26 (rowOf f) i h
+marks-row f e i h = ap (λ (l : List ℕ). getD l i 0) e ∙ getD-tab 26 (rowOf f) i h
+
+pub marks-fit : {m : List ℕ} (f : ℕ → Bool) → m ≡ marks f → (i : ℕ) → i < 26 → getD m i 0 < 2 ^ 16
+unfolding rowOf
+marks-fit f e i h = subst (λ (n : ℕ). n < 2 ^ 16) (sym (marks-row f e i h)) (mask-lt 16 _)
 
 pub marks-bit : (f : ℕ → Bool) (i x : ℕ) → i < 26 → bit (getD (marks f) i 0) x ≡ (onBoard i x && f (codeOf x (i - 5)))
-marks-bit f i x h = ap (λ (m : ℕ). bit m x) (marks-row f i h) ∙ row-bit f i x
+marks-bit f i x h = ap (λ (m : ℕ). bit m x) (marks-row f refl i h) ∙ row-bit f i x
 
 -- THE LAW: a point is marked where it passes the test
 pub mark-at : (f : ℕ → Bool) (p : ℕ) → p < 225 → bit (getD (marks f) (yOf p + 5) 0) (xOf p) ≡ f p
@@ -90,9 +92,9 @@ mark-at f p h =
     marks-bit f (yOf p + 5) (xOf p) (omega arith) ∙ sym (and-on (onBoard (yOf p + 5) (xOf p)) _ (T-true (on-point p h)))
     ∙ ap (λ (n : ℕ). f (codeOf (xOf p) n)) y ∙ ap f (code-of-xy p)
 
-pub marked-at : (f : ℕ → Bool) (p : ℕ) → p < 225 → isMarked (marks f) p ≡ f p
+pub marked-at : {m : List ℕ} (f : ℕ → Bool) → m ≡ marks f → (p : ℕ) → p < 225 → isMarked m p ≡ f p
 unfolding isMarked
-marked-at f p h = mark-at f p h
+marked-at f e p h = ap (λ (l : List ℕ). isMarked l p) e ∙ mark-at f p h
 
 -- no point of a column without marks passes
 pub column-none : (f : ℕ → Bool) (p : ℕ) → p < 225 → anyBelow 26 (λ i. bit (getD (marks f) i 0) (xOf p)) ≡ false → f p ≡ false
@@ -114,13 +116,10 @@ marks-cong f g e = tab-cong 26 (rowOf f) (rowOf g) (λ i h. row-cong f g i e)
 
 -- they have no mark off the board
 pub marks-marked : (f : ℕ → Bool) → Marked (marks f)
-marks-marked f = record { whole = marks-cong f (isMarked (marks f)) (λ p h. sym (marked-at f p h)) }
+marks-marked f = record { whole = marks-cong f (isMarked (marks f)) (λ p h. sym (marked-at f refl p h)) }
 
 pub as-marked : {m : List ℕ} (f : ℕ → Bool) → m ≡ marks f → Marked m
 as-marked f e = subst Marked (sym e) (marks-marked f)
-
-pub marked-row : (m : List ℕ) → Marked m → (i : ℕ) → i < 26 → getD m i 0 ≡ rowOf (isMarked m) i
-marked-row m w i h = ap (λ (l : List ℕ). getD l i 0) (w .whole) ∙ marks-row (isMarked m) i h
 
 -- ---- masks that say something of the points of a row
 
@@ -165,22 +164,6 @@ row-and {m} {n} f g i h e s =
     both : (b u : Bool) {v w : Bool} → (T b → w ≡ v) → ((b && u) && w) ≡ (b && (u && v))
     both true u e = ap (λ (a : Bool). u && a) (e tt)
     both false u e = refl
-
--- the points that are empty and complete no five, in a row
-pub open-row : {b w f e : List ℕ} → Marked b → Marked w → Marked f → e ≡ marks everyPoint → (i : ℕ) → i < 26
-    → bitAnd (getD e i 0) (65535 - bitOr (bitOr (getD b i 0) (getD w i 0)) (getD f i 0))
-    ≡ rowOf (openIn (isMarked b) (isMarked w) (isMarked f)) i
-unfolding everyPoint openIn rowOf
-open-row {b} {w} {f} {e} mb mw mf q i h =
-    row-and everyPoint _ i (ones-sub-lt 16 _) (ap (λ (m : List ℕ). getD m i 0) q ∙ marks-row everyPoint i h)
-    (says-not (or-lt 16 _ _ (or-lt 16 _ _ (fits b mb) (fits w mw)) (fits f mf))
-    (says-or (says-or (says-mask b i) (says-mask w i)) (says-mask f i)))
-    ∙ row-cong _ _ i
-    (λ p k. table3 (λ x y z. true && not ((x || y) || z)) (λ x y z. not x && not y && not z) tt (isMarked b p) (isMarked w p)
-    (isMarked f p))
-  where
-    fits : (m : List ℕ) → Marked m → getD m i 0 < 2 ^ 16
-    fits m w = subst (λ (n : ℕ). n < 2 ^ 16) (sym (marked-row m w i h)) (mask-lt 16 _)
 
 -- ---- marks written mask by mask, from the board's first row on
 
@@ -279,7 +262,7 @@ module _ (x y : ℕ) (hx : x < 15) (hy : y < 15) where
         len = ap length e ∙ length-tab 26 (rowOf (codesBelow (codeOf x y) f))
 
         was : (i : ℕ) → i < 26 → getD l i 0 ≡ rowOf (codesBelow (codeOf x y) f) i
-        was i h = ap (λ (k : List ℕ). getD k i 0) e ∙ marks-row (codesBelow (codeOf x y) f) i h
+        was i h = marks-row (codesBelow (codeOf x y) f) e i h
 
         at : (i : ℕ) → i < 26 → Dec (i ≡ y + 5)
             → getD (set l (y + 5) (bitOr (getD l (y + 5) 0) m)) i 0 ≡ rowOf (codesBelow (codeOf x y + 1) f) i

@@ -56,7 +56,7 @@ module _ (isFive : Bool) (f : ℕ → Bool) (d p : ℕ) where
 
   pub apart-met : (backOf f d 0 p && ((backOf f d 2 p || backOf f d 3 p) || isFive && backOf f d 4 p)
       || backOf f d 1 p && (backOf f d 3 p || isFive && backOf f d 4 p) || backOf f d 2 p && (isFive && backOf f d 4 p))
-      ≡ apart (startsThrough (cellsIf isFive) f d p)
+      ≡ apart 16 (startsThrough (cellsIf isFive) f d p)
   unfolding backOf startsThrough
   apart-met =
       two-of isFive (λ k. backOf f d k p)
@@ -81,13 +81,13 @@ two-lines s =
 
 more-rows : (s : Starts)
     → ((((pairs (someStart (s 0)) (someStart (s 1)) (someStart (s 2)) (someStart (s 3))
-    || apart (s 0)) || apart (s 1)) || apart (s 2)) || apart (s 3))
+    || apart 16 (s 0)) || apart 16 (s 1)) || apart 16 (s 2)) || apart 16 (s 3))
     ≡ moreThanOne s
 unfolding moreThanOne anyBelow
 more-rows s =
-    ap (λ (t : Bool). (((t || apart (s 0)) || apart (s 1)) || apart (s 2)) || apart (s 3)) (two-lines s)
+    ap (λ (t : Bool). (((t || apart 16 (s 0)) || apart 16 (s 1)) || apart 16 (s 2)) || apart 16 (s 3)) (two-lines s)
     ∙ table5 (λ t v h a d. (((t || v) || h) || a) || d) (λ t v h a d. t || anyBelow 4 (five v h a d d)) tt
-    (onTwoLines s) (apart (s 0)) (apart (s 1)) (apart (s 2)) (apart (s 3))
+    (onTwoLines s) (apart 16 (s 0)) (apart 16 (s 1)) (apart 16 (s 2)) (apart 16 (s 3))
 
 -- .. as the masks that say so
 module _ (n : ℕ) (m : ℕ → List ℕ) (i : ℕ) where
@@ -96,7 +96,7 @@ module _ (n : ℕ) (m : ℕ → List ℕ) (i : ℕ) where
   some d p = someStart (startsThrough n (isMarked (m d)) d p)
 
   abbrev pub far : ℕ → ℕ → Bool
-  far d p = apart (startsThrough n (isMarked (m d)) d p)
+  far d p = apart 16 (startsThrough n (isMarked (m d)) d p)
 
   module _ {v h a d : ℕ} (sv : Says v i (some 0)) (sh : Says h i (some 1)) (sa : Says a i (some 2)) (sd : Says d i (some 3)) where
     pub says-some : Says (bitOr (bitOr (bitOr v h) a) d) i (λ p. someRow (allThrough n m p))

@@ -1,175 +1,47 @@
 -- Windows and rows by the point where they start. Assumes nothing.
-use mathlib.Core.Path.{_≡_, sym, ap, ap₂, _∙_, subst, fun-ext}
+use mathlib.Core.Path.{_≡_, refl, sym, ap, ap₂, _∙_, fun-ext}
 use mathlib.Core.Logic.{_⊎_, inl, inr}
-use mathlib.Core.Bool.{Bool, true, false, not, _&&_, _||_, and-true}
+use mathlib.Core.Bool.{Bool, true, false, not, _&&_, _||_, and-true, and-assoc}
 use mathlib.Core.List.{List}
-use Prim.Native.Nat.{ℕ, suc, _+_, _-_, _^_, _<_}
+use Prim.Native.Nat.{ℕ, suc, _+_, _-_, _^_, _≤_, _<_}
 use native.Mathlib.Nat.{add-zero}
 use native.Mathlib.Omega.{arith}
-use lib.Dec.{T, eqb, ltb, ltb→lt}
+use lib.Dec.{T, eqb, leb, ltb, ltb→lt}
 use lib.ListN.{getD}
 use lib.Bits.{bitAnd, bitOr, or-lt}
 use lib.Pow.{ones-sub-lt}
-use borrow.Author.Tests.{lt-ltb, ltb-true, ltb-false}
+use borrow.Author.Tests.{ltb-true, ltb-false}
 use Rattle.rules.specs.Bit.{bit, maskOf}
-use Rattle.rules.specs.Line.{Stones, inside, free, count, beside, dead, scores, holds, pairAt, noStone, openAt, overAt, rowAt}
+use Rattle.rules.specs.Line.{Stones, inside, free, count, beside, dead, scores, holds, rowAt}
 use Rattle.rules.specs.Point.{codeOf, lineNo, cellNo, lineCount, lineSize, pointAt}
-use Rattle.rules.specs.declared.RowKind.the-variants.{Two, Overlining}
-use Rattle.rules.proofs.Logic.{decide, not-false, not-intro, and-flip, and-same, same-leb}
-use Rattle.rules.proofs.Tables.{table2, table3, table4, table5}
-use Rattle.rules.proofs.Address.{point-here, line-here, cell-here, point-lt, line-there, cell-there}
-use Rattle.rules.proofs.Windows.{scored, held}
-use Rattle.rules.proofs.Bits.{bit-mask, mask-lt}
+use Rattle.rules.specs.declared.RowKind.the-variants.{Two, Sword, Overlining}
+use Rattle.rules.proofs.Logic.{decide, not-false, not-intro, and-same, same-leb}
+use Rattle.rules.proofs.Tables.{table4, table5}
+use Rattle.rules.proofs.Address.{line-here, point-lt, line-there, cell-there}
+use Rattle.rules.proofs.Windows.{five, count-le, scored, held}
+use Rattle.rules.proofs.Bits.{mask-cong}
 use Rattle.masks.specs.Masks.{sumAt, Tallied}
-use Rattle.sweep.specs.Marks.{rowOf, marks, isMarked, everyPoint, Says, alongLine, lineOf, aheadOf, backOf, anyOf}
-use Rattle.sweep.specs.Marks.{scoresFrom, holdsFrom, AllScored, pairFrom, openFrom, rowFrom, AllRows}
-use Rattle.sweep.proofs.Marks.{on-elim, marked-at, marks-cong, marks-row, row-and, row-cong, says-or, says-not}
+use Rattle.masks.proofs.Windows.{open-bit, over-bit}
+use Rattle.masks.proofs.Held.{holds-two, holds-three, holds-four}
+use Rattle.sweep.specs.Marks.{onBoard, rowOf, marks, isMarked, everyPoint, Says, alongLine, lineOf, aheadOf, backOf}
+use Rattle.sweep.specs.Marks.{scoresFrom, holdsFrom, Scored, pairFrom, rowFrom}
+use Rattle.sweep.proofs.Marks.{marked-at, marks-row, row-and, row-cong, says-or, says-not}
 
 -- ---- marks along a line
 
-pub along-marks : (f : ℕ → Bool) (d i : ℕ) → d < 4 → i < lineCount d → alongLine (isMarked (marks f)) d i ≡ alongLine f d i
+pub along-marks : {m : List ℕ} (f : ℕ → Bool) → m ≡ marks f → (d i : ℕ) → d < 4 → i < lineCount d
+    → alongLine (isMarked m) d i ≡ alongLine f d i
 unfolding alongLine
-along-marks f d i hd hi =
+along-marks f e d i hd hi =
     fun-ext (λ j. and-same (ltb j (lineSize d i)) _ _
-    (λ t. marked-at f (pointAt d i j) (point-lt d i j hd hi (ltb→lt j (lineSize d i) t))))
+    (λ t. marked-at f e (pointAt d i j) (point-lt d i j hd hi (ltb→lt j (lineSize d i) t))))
 
 -- no step
 no-step : (f : ℕ → Bool) (d p : ℕ) → aheadOf f d 0 p ≡ lineOf f d p (cellNo d p)
 unfolding aheadOf
 no-step f d p = ap (lineOf f d p) (add-zero (cellNo d p))
 
--- the point itself, on its line
-at-cell : (f : ℕ → Bool) (d p : ℕ) → d < 4 → p < 225 → lineOf f d p (cellNo d p) ≡ f p
-unfolding alongLine
-at-cell f d p hd hp =
-    ap₂ (λ (a : Bool) (q : ℕ). a && f q) (lt-ltb (cellNo d p) (lineSize d (lineNo d p)) (cell-here d p hd hp)) (point-here d p hd hp)
-
--- ---- rows on two windows
-
-pub pair-here : (f : ℕ → Bool) (d p : ℕ) → d < 4 → p < 225 → (f p && backOf f d 1 p) ≡ pairFrom f d p
-unfolding pairFrom pairAt backOf
-pair-here f d p hd hp =
-    and-flip (f p) (backOf f d 1 p) ∙ ap (λ (a : Bool). backOf f d 1 p && a) (sym (at-cell f d p hd hp))
-
-pub open-here : (f b w : ℕ → Bool) (d p : ℕ) → d < 4 → p < 225
-    → ((f p && backOf f d 1 p) && not (aheadOf b d 4 p || aheadOf w d 4 p)) ≡ openFrom f b w d p
-unfolding openFrom noStone aheadOf
-open-here f b w d p hd hp =
-    ap₂ (λ (x y : Bool). x && y) (pair-here f d p hd hp)
-    (table2 (λ x y. not (x || y)) (λ x y. not x && not y) tt (aheadOf b d 4 p) (aheadOf w d 4 p))
-
--- ---- windows
-
--- the window's last cell is on the line where the whole window is
-every-line : (d i j : ℕ) → alongLine everyPoint d i (j + 4) ≡ inside (lineSize d i) j
-unfolding alongLine everyPoint inside
-every-line d i j =
-    and-true (ltb (j + 4) (lineSize d i))
-    ∙ same-leb (suc (j + 4)) (lineSize d i) (j + 5) (lineSize d i) (λ a. omega arith) (λ a. omega arith)
-
-inside-here : (d p : ℕ) → d < 4 → p < 225 → aheadOf (isMarked (marks everyPoint)) d 4 p ≡ inside (lineSize d (lineNo d p)) (cellNo d p)
-unfolding aheadOf
-inside-here d p hd hp =
-    ap (λ (s : Stones). s (cellNo d p + 4)) (along-marks everyPoint d (lineNo d p) hd (line-here d p hd hp))
-    ∙ every-line d (lineNo d p) (cellNo d p)
-
--- "It is free for a colour when it has no stone of the other."
-free-here : (f : ℕ → Bool) (d p : ℕ) → not (anyOf f d p) ≡ free (lineOf f d p) (cellNo d p)
-unfolding anyOf free aheadOf
-free-here f d p =
-    ap (λ (a : Bool). not (a || own 1 || own 2 || own 3 || own 4)) (no-step f d p)
-    ∙ table5 (λ a b c e g. not (a || b || c || e || g)) (λ a b c e g. not a && not b && not c && not e && not g) tt
-    (lineOf f d p (cellNo d p)) (own 1) (own 2) (own 3) (own 4)
-  where
-    own : ℕ → Bool
-    own k = lineOf f d p (cellNo d p + k)
-
--- the windows that lie on their line and are free, as the code has them
-abbrev roomFor : (ℕ → Bool) → ℕ → ℕ → Bool
-roomFor w d p = (everyPoint p && aheadOf (isMarked (marks everyPoint)) d 4 p) && not (anyOf w d p)
-
-room : (w : ℕ → Bool) (d p : ℕ) → d < 4 → p < 225 → roomFor w d p
-    ≡ (inside (lineSize d (lineNo d p)) (cellNo d p) && free (lineOf w d p) (cellNo d p))
-unfolding everyPoint
-room w d p hd hp = ap₂ (λ (a b : Bool). a && b) (inside-here d p hd hp) (free-here w d p)
-
--- a window's stones: the digits of how many there are
-module _ (f : ℕ → Bool) (d i : ℕ) {a b c e g : ℕ} (sa : Says a i (aheadOf f d 0)) (sb : Says b i (aheadOf f d 1))
-    (sc : Says c i (aheadOf f d 2)) (se : Says e i (aheadOf f d 3)) (sg : Says g i (aheadOf f d 4)) where
-  says-digit : {m : ℕ} (k : ℕ) → m ≡ maskOf 16 (λ j. bit (sumAt a b c e g j) k)
-      → Says m i (λ p. bit (count (lineOf f d p) (cellNo d p)) k)
-  unfolding sumAt count aheadOf
-  says-digit k q =
-      record {
-        at = λ x t.
-            let o = on-elim i x t in
-            ap (λ (n : ℕ). bit n x) q ∙ bit-mask 16 _ x (omega (arith, o .column))
-            ∙ rw (sa .at x t, sb .at x t, sc .at x t, se .at x t, sg .at x t, no-step f d (codeOf x (i - 5)));
-      }
-
-  -- what three masks say that are a tally
-  pub record Counted (ones twos fours : ℕ) : Type 0 where
-    pub first : Says ones i (λ p. bit (count (lineOf f d p) (cellNo d p)) 0)
-    pub second : Says twos i (λ p. bit (count (lineOf f d p) (cellNo d p)) 1)
-    pub third : Says fours i (λ p. bit (count (lineOf f d p) (cellNo d p)) 2)
-
-  pub says-tally : {ones twos fours : ℕ} → Tallied 16 (sumAt a b c e g) ones twos fours → Counted ones twos fours
-  says-tally t = record { first = says-digit 0 (t .first); second = says-digit 1 (t .second); third = says-digit 2 (t .third) }
-
--- THE LAWS: the code's combinations of these are the windows that score, and those that hold. u and v are the tests of two digits.
-module _ (b w : ℕ → Bool) (d p : ℕ) (hd : d < 4) (hp : p < 225) (n : ℕ) (u v : Bool) where
-  pub scores-here : (u && v) ≡ eqb (count (lineOf b d p) (cellNo d p)) n
-      → (((roomFor w d p && not (backOf b d 1 p || aheadOf b d 5 p)) && u) && v) ≡ scoresFrom b w d n p
-  unfolding scoresFrom scores dead beside backOf aheadOf
-  scores-here e =
-      table4 (λ x y u v. ((x && not y) && u) && v) (λ x y u v. (x && not y) && (u && v)) tt (roomFor w d p)
-      (backOf b d 1 p || aheadOf b d 5 p) u v
-      ∙ ap₂ (λ (x y : Bool). (x && not (backOf b d 1 p || aheadOf b d 5 p)) && y) (room w d p hd hp) e
-      ∙ table4 (λ i f b e. ((i && f) && not b) && e) (λ i f b e. i && not (not f || true && b) && e) tt
-      (inside (lineSize d (lineNo d p)) (cellNo d p)) (free (lineOf w d p) (cellNo d p)) (beside (lineOf b d p) (cellNo d p))
-      (eqb (count (lineOf b d p) (cellNo d p)) n)
-
-  pub holds-here : (u && v) ≡ eqb (count (lineOf b d p) (cellNo d p)) n → ((roomFor w d p && u) && v) ≡ holdsFrom b w d n p
-  unfolding holdsFrom holds
-  holds-here e =
-      table3 (λ x u v. (x && u) && v) (λ x u v. x && (u && v)) tt (roomFor w d p) u v ∙ ap₂ (λ (x y : Bool). x && y) (room w d p hd hp) e
-
--- ---- the same of the points of a row
-
-pub fits16 : {m : ℕ} (f : ℕ → Bool) → m ≡ maskOf 16 f → m < 2 ^ 16
-fits16 f e = subst (λ (n : ℕ). n < 2 ^ 16) (sym e) (mask-lt 16 f)
-
-pub free-row : {whole : List ℕ} {a o : ℕ} (w : ℕ → Bool) (d i : ℕ) → whole ≡ marks everyPoint → i < 26 → a < 2 ^ 16
-    → Says a i (aheadOf (isMarked whole) d 4) → Says o i (anyOf w d) → o < 2 ^ 16
-    → bitAnd (bitAnd (getD whole i 0) a) (65535 - o) ≡ rowOf (roomFor w d) i
-free-row {whole} {a} {o} w d i e hi ha sa so ho =
-    row-and _ _ i (ones-sub-lt 16 o)
-    (row-and everyPoint (aheadOf (isMarked (marks everyPoint)) d 4) i ha (ap (λ (l : List ℕ). getD l i 0) e ∙ marks-row everyPoint i hi)
-    (subst (λ (l : List ℕ). Says a i (aheadOf (isMarked l) d 4)) e sa))
-    (says-not ho so)
-
-module _ (b w : ℕ → Bool) (d i : ℕ) where
-  -- free, and no black stone just before or just after
-  abbrev pub alive : ℕ → Bool
-  alive p = roomFor w d p && not (backOf b d 1 p || aheadOf b d 5 p)
-
-  pub alive-row : {m q a : ℕ} → m ≡ rowOf (roomFor w d) i → Says q i (backOf b d 1) → Says a i (aheadOf b d 5) → q < 2 ^ 16 → a < 2 ^ 16
-      → bitAnd m (65535 - bitOr q a) ≡ rowOf alive i
-  alive-row {m} {q} {a} e sq sa hq ha =
-      row-and (roomFor w d) _ i (ones-sub-lt 16 (bitOr q a)) e (says-not (or-lt 16 q a hq ha) (says-or sq sa))
-
-  module _ (hd : d < 4) (n : ℕ) {u v : ℕ} (f g : ℕ → Bool) (su : Says u i f) (sv : Says v i g) (hu : u < 2 ^ 16) (hv : v < 2 ^ 16)
-      (e : (p : ℕ) → (f p && g p) ≡ eqb (count (lineOf b d p) (cellNo d p)) n) where
-    pub scored-row : {m : ℕ} → m ≡ rowOf alive i → bitAnd (bitAnd m u) v ≡ rowOf (scoresFrom b w d n) i
-    scored-row q =
-        row-and _ g i hv (row-and alive f i hu q su) sv ∙ row-cong _ _ i (λ p hp. scores-here b w d p hd hp n (f p) (g p) (e p))
-
-    pub held-row : {m : ℕ} → m ≡ rowOf (roomFor w d) i → bitAnd (bitAnd m u) v ≡ rowOf (holdsFrom b w d n) i
-    held-row q =
-        row-and _ g i hv (row-and (roomFor w d) f i hu q su) sv ∙ row-cong _ _ i (λ p hp. holds-here b w d p hd hp n (f p) (g p) (e p))
-
--- ---- what starts at each point, read along a line: it is what starts at each cell
-
+-- what starts at each point, read along a line: it is what starts at each cell
 module _ (d i : ℕ) (hd : d < 4) (hi : i < lineCount d) (w : ℕ → ℕ → Bool) (inside : (j : ℕ) → T (w i j) → j < lineSize d i) where
   along-here : alongLine (λ q. w (lineNo d q) (cellNo d q)) d i ≡ w i
   unfolding alongLine
@@ -184,34 +56,147 @@ module _ (d i : ℕ) (hd : d < 4) (hi : i < lineCount d) (w : ℕ → ℕ → Bo
           rw e (sym (not-false (not-intro (w i j) (λ t. let h = inside j t in omega (arith, ltb-false j (lineSize d i) e)))))
 
   pub marks-along : {m : List ℕ} → m ≡ marks (λ q. w (lineNo d q) (cellNo d q)) → alongLine (isMarked m) d i ≡ w i
-  marks-along e =
-      ap (λ (l : List ℕ). alongLine (isMarked l) d i) e ∙ along-marks (λ q. w (lineNo d q) (cellNo d q)) d i hd hi ∙ along-here
+  marks-along e = along-marks (λ q. w (lineNo d q) (cellNo d q)) e d i hd hi ∙ along-here
 
--- ---- the rows of four kinds, from the windows
-module _ {b w : ℕ → Bool} {d : ℕ} (hd : d < 4) {two three four over : List ℕ} (s : AllScored b w d two three four over) where
-  -- "Two .. at j: windows j−1 and j both score 2 .. and cell j+4 is empty."
-  opened : {r : List ℕ} → r ≡ marks (openFrom (isMarked two) b w d) → r ≡ marks (rowFrom b w Two d)
-  unfolding rowFrom rowAt openAt openFrom pairFrom scoresFrom
-  opened e =
-      e ∙ marks-cong _ _
+-- ---- windows
+
+-- the window's last cell is on the line where the whole window is
+every-line : (d i j : ℕ) → alongLine everyPoint d i (j + 4) ≡ inside (lineSize d i) j
+unfolding alongLine everyPoint inside
+every-line d i j =
+    and-true (ltb (j + 4) (lineSize d i))
+    ∙ same-leb (suc (j + 4)) (lineSize d i) (j + 5) (lineSize d i) (λ a. omega arith) (λ a. omega arith)
+
+inside-here : {m : List ℕ} → m ≡ marks everyPoint → (d p : ℕ) → d < 4 → p < 225
+    → aheadOf (isMarked m) d 4 p ≡ inside (lineSize d (lineNo d p)) (cellNo d p)
+unfolding aheadOf
+inside-here e d p hd hp =
+    ap (λ (s : Stones). s (cellNo d p + 4)) (along-marks everyPoint e d (lineNo d p) hd (line-here d p hd hp))
+    ∙ every-line d (lineNo d p) (cellNo d p)
+
+-- "It is free for a colour when it has no stone of the other."
+pub free-here : (f : ℕ → Bool) (d p : ℕ)
+    → not ((((aheadOf f d 0 p || aheadOf f d 1 p) || aheadOf f d 2 p) || aheadOf f d 3 p) || aheadOf f d 4 p)
+    ≡ free (lineOf f d p) (cellNo d p)
+unfolding free aheadOf
+free-here f d p =
+    ap (λ (a : Bool). not (a || own 1 || own 2 || own 3 || own 4)) (no-step f d p)
+    ∙ table5 (λ a b c e g. not (a || b || c || e || g)) (λ a b c e g. not a && not b && not c && not e && not g) tt
+    (lineOf f d p (cellNo d p)) (own 1) (own 2) (own 3) (own 4)
+  where
+    own : ℕ → Bool
+    own k = lineOf f d p (cellNo d p + k)
+
+-- the window lies on its line and is free
+abbrev pub roomFrom : (ℕ → Bool) → ℕ → ℕ → Bool
+roomFrom w d p = inside (lineSize d (lineNo d p)) (cellNo d p) && free (lineOf w d p) (cellNo d p)
+
+-- .. and no black stone stands just before it or just after it
+abbrev pub aliveFrom : (ℕ → Bool) → (ℕ → Bool) → ℕ → ℕ → Bool
+aliveFrom b w d p = roomFrom w d p && not (beside (lineOf b d p) (cellNo d p))
+
+pub room-row : {whole : List ℕ} {a o : ℕ} (w : ℕ → Bool) (d i : ℕ) → d < 4 → whole ≡ marks everyPoint → i < 26 → a < 2 ^ 16 → o < 2 ^ 16
+    → Says a i (aheadOf (isMarked whole) d 4) → Says o i (λ p. free (lineOf w d p) (cellNo d p))
+    → bitAnd (bitAnd (getD whole i 0) a) o ≡ rowOf (roomFrom w d) i
+unfolding everyPoint
+room-row w d i hd e hi ha ho sa so =
+    row-and _ _ i ho (row-and everyPoint _ i ha (marks-row everyPoint e i hi) sa) so
+    ∙ row-cong _ _ i (λ p hp. ap (λ (x : Bool). x && free (lineOf w d p) (cellNo d p)) (inside-here e d p hd hp))
+
+module _ (b w : ℕ → Bool) (d i : ℕ) where
+  pub alive-row : {m q a : ℕ} → m ≡ rowOf (roomFrom w d) i → q < 2 ^ 16 → a < 2 ^ 16 → Says q i (backOf b d 1) → Says a i (aheadOf b d 5)
+      → bitAnd m (65535 - bitOr q a) ≡ rowOf (aliveFrom b w d) i
+  unfolding beside backOf aheadOf
+  alive-row {m} {q} {a} e hq ha sq sa =
+      row-and (roomFrom w d) _ i (ones-sub-lt 16 (bitOr q a)) e (says-not (or-lt 16 q a hq ha) (says-or sq sa))
+
+  scores-here : (n p : ℕ) → (aliveFrom b w d p && eqb (count (lineOf b d p) (cellNo d p)) n) ≡ scoresFrom b w d n p
+  unfolding scoresFrom scores dead
+  scores-here n p =
+      table4 (λ i f b e. ((i && f) && not b) && e) (λ i f b e. i && not (not f || true && b) && e) tt
+      (inside (lineSize d (lineNo d p)) (cellNo d p)) (free (lineOf w d p) (cellNo d p)) (beside (lineOf b d p) (cellNo d p))
+      (eqb (count (lineOf b d p) (cellNo d p)) n)
+
+  holds-here : (n p : ℕ) → (roomFrom w d p && eqb (count (lineOf b d p) (cellNo d p)) n) ≡ holdsFrom b w d n p
+  unfolding holdsFrom holds
+  holds-here n p = refl
+
+  -- the windows' cells, and how many of them have a black stone
+  module _ {a0 a1 a2 a3 a4 : ℕ} (s0 : Says a0 i (aheadOf b d 0)) (s1 : Says a1 i (aheadOf b d 1)) (s2 : Says a2 i (aheadOf b d 2))
+      (s3 : Says a3 i (aheadOf b d 3)) (s4 : Says a4 i (aheadOf b d 4)) where
+    abbrev stones : ℕ → ℕ
+    stones = sumAt a0 a1 a2 a3 a4
+
+    stones-le : (x : ℕ) → stones x ≤ 5
+    unfolding sumAt count
+    stones-le x = count-le (five (bit a0 x) (bit a1 x) (bit a2 x) (bit a3 x) (bit a4 x)) 0
+
+    stones-here : (x : ℕ) → T (onBoard i x) → stones x ≡ count (lineOf b d (codeOf x (i - 5))) (cellNo d (codeOf x (i - 5)))
+    unfolding sumAt count aheadOf
+    stones-here x t = rw (s0 .at x t, s1 .at x t, s2 .at x t, s3 .at x t, s4 .at x t, no-step b d (codeOf x (i - 5)))
+
+    counted : {m : ℕ} (pass test : ℕ → Bool) (n : ℕ)
+        → m ≡ maskOf 16 (λ x. (onBoard i x && pass (codeOf x (i - 5))) && eqb (stones x) n)
+        → ((p : ℕ) → (pass p && eqb (count (lineOf b d p) (cellNo d p)) n) ≡ test p) → m ≡ rowOf test i
+    unfolding rowOf
+    counted pass test n e same =
+        e ∙ mask-cong 16 _ _
+        (λ x h.
+        let p = codeOf x (i - 5) in
+        and-assoc (onBoard i x) (pass p) (eqb (stones x) n)
+        ∙ and-same (onBoard i x) _ _ (λ t. ap (λ (k : ℕ). pass p && eqb k n) (stones-here x t) ∙ same p))
+
+    -- THE LAW: the windows that score, and those that hold
+    pub scored-row : {room alive ones twos fours : ℕ} → room ≡ rowOf (roomFrom w d) i → alive ≡ rowOf (aliveFrom b w d) i
+        → Tallied 16 (sumAt a0 a1 a2 a3 a4) ones twos fours
+        → Scored (λ f. rowOf f i) b w d (bitAnd (bitAnd alive twos) (65535 - ones)) (bitAnd (bitAnd alive twos) ones)
+        (bitAnd (bitAnd room fours) (65535 - ones))
+    unfolding rowOf
+    scored-row er ea t =
+        record {
+          twos = counted (aliveFrom b w d) _ 2 (holds-two 16 stones stones-le _ ea t) (scores-here 2);
+          threes = counted (aliveFrom b w d) _ 3 (holds-three 16 stones stones-le _ ea t) (scores-here 3);
+          fours = counted (roomFrom w d) _ 4 (holds-four 16 stones stones-le _ er t) (holds-here 4);
+        }
+
+-- ---- rows of three kinds, from the windows
+
+-- "windows j−1 and j both"
+module _ (d p : ℕ) (hd : d < 4) (hp : p < 225) (w : ℕ → ℕ → Bool) (inside : (j : ℕ) → T (w (lineNo d p) j) → j < lineSize d (lineNo d p))
+  where
+    pair-here : {m : List ℕ} → m ≡ marks (λ q. w (lineNo d q) (cellNo d q))
+        → pairFrom (isMarked m) d p ≡ (w (lineNo d p) (cellNo d p) && (leb 1 (cellNo d p) && w (lineNo d p) (cellNo d p - 1)))
+    unfolding pairFrom backOf
+    pair-here e =
+        ap₂ (λ (x : Bool) (s : Stones). x && (leb 1 (cellNo d p) && s (cellNo d p - 1)))
+        (marked-at _ e p hp) (marks-along d (lineNo d p) hd (line-here d p hd hp) w inside e)
+
+module _ (b w : ℕ → Bool) (d : ℕ) (hd : d < 4) {s : List ℕ} where
+  pub two-row : {m a : ℕ} (i : ℕ) → s ≡ marks (scoresFrom b w d 2) → m ≡ rowOf (pairFrom (isMarked s) d) i → a < 2 ^ 16
+      → Says a i (aheadOf b d 4) → bitAnd m (65535 - a) ≡ rowOf (rowFrom b w Two d) i
+  unfolding rowFrom rowAt scoresFrom aheadOf
+  two-row {m} {a} i e em ha sa =
+      row-and _ _ i (ones-sub-lt 16 a) em (says-not ha sa)
+      ∙ row-cong _ _ i
       (λ p hp.
-      let i = lineNo d p in
-      ap (λ (x : Stones). pairAt x (cellNo d p) && noStone (alongLine b d i) (alongLine w d i) (cellNo d p + 4))
-      (marks-along d i hd (line-here d p hd hp) (λ i j. scores true (lineSize d i) (alongLine b d i) (alongLine w d i) 2 j)
-      (λ j t. let f = scored true (lineSize d i) (alongLine b d i) (alongLine w d i) 2 j t in omega (arith, f .fits)) (s .twos)))
+      let n = lineSize d (lineNo d p) in
+      ap (λ (x : Bool). x && not (lineOf b d p (cellNo d p + 4)))
+      (pair-here d p hd hp (λ i j. scores true (lineSize d i) (alongLine b d i) (alongLine w d i) 2 j)
+      (λ j t. let f = scored true n (lineOf b d p) (lineOf w d p) 2 j t in omega (arith, f .fits)) e)
+      ∙ open-bit true n (lineOf b d p) (lineOf w d p) 2 (cellNo d p))
 
-  -- "Overlining .. at j: windows j−1 and j are both free and both hold 4 .., counted without the dead rule."
-  overlined : {r : List ℕ} → r ≡ marks (pairFrom (isMarked over) d) → r ≡ marks (rowFrom b w Overlining d)
-  unfolding rowFrom rowAt overAt pairFrom holdsFrom
-  overlined e =
-      e ∙ marks-cong _ _
+  pub overlining-row : {m : ℕ} (i : ℕ) → s ≡ marks (holdsFrom b w d 4) → m ≡ rowOf (pairFrom (isMarked s) d) i
+      → m ≡ rowOf (rowFrom b w Overlining d) i
+  unfolding rowFrom rowAt holdsFrom
+  overlining-row i e em =
+      em
+      ∙ row-cong _ _ i
       (λ p hp.
-      let i = lineNo d p in
-      ap (λ (x : Stones). pairAt x (cellNo d p))
-      (marks-along d i hd (line-here d p hd hp) (λ i j. holds (lineSize d i) (alongLine b d i) (alongLine w d i) 4 j)
-      (λ j t. let f = held (lineSize d i) (alongLine b d i) (alongLine w d i) 4 j t in omega (arith, f .fits)) (s .overs)))
+      let n = lineSize d (lineNo d p) in
+      pair-here d p hd hp (λ i j. holds (lineSize d i) (alongLine b d i) (alongLine w d i) 4 j)
+      (λ j t. let f = held n (lineOf b d p) (lineOf w d p) 4 j t in omega (arith, f .fits)) e
+      ∙ over-bit n (lineOf b d p) (lineOf w d p) 4 (cellNo d p))
 
-  pub all-rows : {twos overs : List ℕ} → twos ≡ marks (openFrom (isMarked two) b w d) → overs ≡ marks (pairFrom (isMarked over) d)
-      → AllRows b w d twos three four overs
+  pub sword-rows : s ≡ marks (scoresFrom b w d 3) → s ≡ marks (rowFrom b w Sword d)
   unfolding rowFrom rowAt scoresFrom
-  all-rows e f = record { twos = opened e; swords = s .threes; fours = s .fours; overs = overlined f }
+  sword-rows e = e

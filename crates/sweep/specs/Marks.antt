@@ -1,20 +1,19 @@
 -- Marks: what is said of all points of a board at once, 26 masks of which bit x of mask y + 5 is the point (x, y). The masks before and
 -- behind are empty, so that five steps from a point, in any direction, stay among them.
 use mathlib.Core.Path.{_≡_}
-use mathlib.Core.Bool.{Bool, true, not, _&&_, _||_, cond}
+use mathlib.Core.Bool.{Bool, true, _&&_, cond}
 use mathlib.Core.List.{List}
 use Prim.Native.Nat.{ℕ, zero, suc, _+_, _-_}
 use lib.Dec.{T, eqb, leb, ltb}
 use lib.ListN.{getD, length}
 use Rattle.rules.specs.Tools.{tab}
 use Rattle.rules.specs.Bit.{bit, maskOf}
-use Rattle.rules.specs.Line.{Stones, among, scores, holds, pairAt, noStone, rowAt}
+use Rattle.rules.specs.Line.{Stones, among, scores, holds, rowAt}
 use Rattle.rules.specs.Point.{xOf, yOf, codeOf, lineNo, cellNo, lineSize, pointAt}
-use Rattle.rules.specs.Grid.{isEmpty, Starts, rowsThrough}
-use Rattle.rules.specs.Forbidden.{moreThanOne, completesFive}
-use Rattle.rules.specs.declared.Player.the-variants.{Black}
+use Rattle.rules.specs.Grid.{isEmpty, Starts}
+use Rattle.rules.specs.Forbidden.{mayForbid}
 use Rattle.rules.specs.declared.RowKind.{RowKind}
-use Rattle.rules.specs.declared.RowKind.the-variants.{Two, Sword, Four, Overlining}
+use Rattle.rules.specs.declared.RowKind.the-variants.{Two, Sword, Overlining}
 
 -- bit x of mask i is a point of the board
 unfoldable pub onBoard : ℕ → ℕ → Bool
@@ -28,13 +27,9 @@ rowOf f i = maskOf 16 (λ x. onBoard i x && f (codeOf x (i - 5)))
 unfoldable pub marks : (ℕ → Bool) → List ℕ
 marks f = tab 26 (rowOf f)
 
--- "more than one Two through p", the first half of DoubleThree
-unfoldable pub moreTwos : List ℕ → ℕ → Bool
-moreTwos cells p = moreThanOne (rowsThrough Black Two cells p)
-
--- A test of section 5 at the points where the strict verdict can rest on it: 225 cells, the point empty, and no black Four through it.
-unfoldable pub openTo : (List ℕ → ℕ → Bool) → List ℕ → ℕ → Bool
-openTo test cells p = eqb (length cells) 225 && isEmpty (getD cells p 0) && not (completesFive cells p) && test cells p
+-- a point to ask about: of 225 cells, empty, and some kind may apply there
+unfoldable pub askedAt : List ℕ → ℕ → Bool
+askedAt cells p = eqb (length cells) 225 && isEmpty (getD cells p 0) && mayForbid cells p
 
 -- ---- marks as tests of points, and along a line
 
@@ -53,10 +48,6 @@ everyPoint p = true
 -- the points that pass a test, of those with codes below n
 unfoldable pub codesBelow : ℕ → (ℕ → Bool) → ℕ → Bool
 codesBelow n f p = ltb p n && f p
-
--- no stone at p, and no five to complete
-unfoldable pub openIn : (ℕ → Bool) → (ℕ → Bool) → (ℕ → Bool) → ℕ → Bool
-openIn blacks whites fives p = not (blacks p) && not (whites p) && not (fives p)
 
 -- p's cell has this value
 unfoldable pub hasValue : List ℕ → ℕ → ℕ → Bool
@@ -83,10 +74,6 @@ backOf f d k p = leb k (cellNo d p) && lineOf f d p (cellNo d p - k)
 
 -- ---- windows that start at a point, of Black's marks and White's
 
--- one of its cells passes
-unfoldable pub anyOf : (ℕ → Bool) → ℕ → ℕ → Bool
-anyOf f d p = aheadOf f d 0 p || aheadOf f d 1 p || aheadOf f d 2 p || aheadOf f d 3 p || aheadOf f d 4 p
-
 -- its score is n
 unfoldable pub scoresFrom : (ℕ → Bool) → (ℕ → Bool) → ℕ → ℕ → ℕ → Bool
 scoresFrom blacks whites d n p = scores true (lineSize d (lineNo d p)) (lineOf blacks d p) (lineOf whites d p) n (cellNo d p)
@@ -95,37 +82,26 @@ scoresFrom blacks whites d n p = scores true (lineSize d (lineNo d p)) (lineOf b
 unfoldable pub holdsFrom : (ℕ → Bool) → (ℕ → Bool) → ℕ → ℕ → ℕ → Bool
 holdsFrom blacks whites d n p = holds (lineSize d (lineNo d p)) (lineOf blacks d p) (lineOf whites d p) n (cellNo d p)
 
--- four masks of row i, and four lists of marks: the windows that score 2, 3 and 4, and those that are free and hold 4
-pub record RowScored (blacks whites : ℕ → Bool) (d i two three four over : ℕ) : Type 0 where
-  pub twos : two ≡ rowOf (scoresFrom blacks whites d 2) i
-  pub threes : three ≡ rowOf (scoresFrom blacks whites d 3) i
-  pub fours : four ≡ rowOf (scoresFrom blacks whites d 4) i
-  pub overs : over ≡ rowOf (holdsFrom blacks whites d 4) i
+-- The windows that score 2, those that score 3, and those that are free and hold 4. `told` makes of a test of points what tells it: the
+-- mask of a row of points, or the marks of all.
+pub record Scored {A : Type 0} (told : (ℕ → Bool) → A) (blacks whites : ℕ → Bool) (d : ℕ) (two three four : A) : Type 0 where
+  pub twos : two ≡ told (scoresFrom blacks whites d 2)
+  pub threes : three ≡ told (scoresFrom blacks whites d 3)
+  pub fours : four ≡ told (holdsFrom blacks whites d 4)
 
-pub record AllScored (blacks whites : ℕ → Bool) (d : ℕ) (two three four over : List ℕ) : Type 0 where
-  pub twos : two ≡ marks (scoresFrom blacks whites d 2)
-  pub threes : three ≡ marks (scoresFrom blacks whites d 3)
-  pub fours : four ≡ marks (scoresFrom blacks whites d 4)
-  pub overs : over ≡ marks (holdsFrom blacks whites d 4)
-
--- "windows j−1 and j both" pass, for the window j that starts at p
+-- the windows that start at p and one cell before it both pass
 unfoldable pub pairFrom : (ℕ → Bool) → ℕ → ℕ → Bool
-pairFrom w d p = pairAt (lineOf w d p) (cellNo d p)
-
--- "and cell j+4 is empty"
-unfoldable pub openFrom : (ℕ → Bool) → (ℕ → Bool) → (ℕ → Bool) → ℕ → ℕ → Bool
-openFrom w blacks whites d p = pairFrom w d p && noStone (lineOf blacks d p) (lineOf whites d p) (cellNo d p + 4)
+pairFrom w d p = w p && backOf w d 1 p
 
 -- a row of the kind starts at p
 unfoldable pub rowFrom : (ℕ → Bool) → (ℕ → Bool) → RowKind → ℕ → ℕ → Bool
 rowFrom blacks whites k d p = rowAt true (lineSize d (lineNo d p)) (lineOf blacks d p) (lineOf whites d p) k (cellNo d p)
 
--- four lists of marks: where the rows of four kinds start
-pub record AllRows (blacks whites : ℕ → Bool) (d : ℕ) (two sword four over : List ℕ) : Type 0 where
+-- three lists of marks: where the rows of three kinds start
+pub record AllRows (blacks whites : ℕ → Bool) (d : ℕ) (two sword overlining : List ℕ) : Type 0 where
   pub twos : two ≡ marks (rowFrom blacks whites Two d)
   pub swords : sword ≡ marks (rowFrom blacks whites Sword d)
-  pub fours : four ≡ marks (rowFrom blacks whites Four d)
-  pub overs : over ≡ marks (rowFrom blacks whites Overlining d)
+  pub overs : overlining ≡ marks (rowFrom blacks whites Overlining d)
 
 -- ---- rows through a point, of the marks of the points where rows start
 

@@ -6,7 +6,7 @@ ghost use mathlib.Core.Bool.{_&&_};
 ghost use Prim.Native.Nat.{_≤_, _<_};
 ghost use Rattle.rules.specs.Bit.{maskOf};
 ghost use Rattle.rules.specs.Forbidden.{someStart, apart, someRow, moreThanOne};
-ghost use Rattle.sweep.specs.Marks.{marks, isMarked, Marked, Says, backOf, cellsIf, startsThrough, marksIn, allThrough};
+ghost use Rattle.sweep.specs.Marks.{isMarked, Marked, Says, backOf, cellsIf, startsThrough, marksIn, allThrough};
 
 // For each point of a row, whether a row of one direction goes through it, and whether more than one does.
 struct Met {
@@ -14,52 +14,15 @@ struct Met {
     apart: u16,
 }
 
-// The given points through which some row goes.
-pub(crate) fn some_row(
-    points: &[u16; 26],
-    v: &[u16; 26],
-    h: &[u16; 26],
-    a: &[u16; 26],
-    d: &[u16; 26],
-    five: bool,
-) -> [u16; 26]
-    requires { ⌜ Marked (now points) × Marked (now v) × Marked (now h) × Marked (now a) × Marked (now d) ⌝ }
-    ensures { λ r. ⌜ r ≡ marks (λ p. isMarked (now (points .entry)) p
-        && someRow (allThrough (cellsIf five) (marksIn (now (v .entry)) (now (h .entry)) (now (a .entry)) (now (d .entry))) p)) ⌝ }
-{
-    let mut marks = [0u16; 26];
-    let mut i = 5usize;
-    while i < 21 {
-        marks[i] = points[i] & some_at(v, h, a, d, i, five);
-        i += 1;
-    }
-    marks
-}
-
-// The given points through which more than one row goes.
-pub(crate) fn more_than_one(
-    points: &[u16; 26],
-    v: &[u16; 26],
-    h: &[u16; 26],
-    a: &[u16; 26],
-    d: &[u16; 26],
-    five: bool,
-) -> [u16; 26]
-    requires { ⌜ Marked (now points) × Marked (now v) × Marked (now h) × Marked (now a) × Marked (now d) ⌝ }
-    ensures { λ r. ⌜ r ≡ marks (λ p. isMarked (now (points .entry)) p
-        && moreThanOne (allThrough (cellsIf five) (marksIn (now (v .entry)) (now (h .entry)) (now (a .entry)) (now (d .entry))) p)) ⌝ }
-{
-    let mut marks = [0u16; 26];
-    let mut i = 5usize;
-    while i < 21 {
-        marks[i] = points[i] & more_at(v, h, a, d, i, five);
-        i += 1;
-    }
-    marks
-}
-
 // For each point of row i, whether some row goes through it.
-fn some_at(v: &[u16; 26], h: &[u16; 26], a: &[u16; 26], d: &[u16; 26], i: usize, five: bool) -> u16
+pub(crate) fn some_at(
+    v: &[u16; 26],
+    h: &[u16; 26],
+    a: &[u16; 26],
+    d: &[u16; 26],
+    i: usize,
+    five: bool,
+) -> u16
     requires { ⌜ Marked (now v) × Marked (now h) × Marked (now a) × Marked (now d) × (5 ≤ i) × (i < 21) ⌝ }
     ensures { λ r. ⌜ Says r i
         (λ p. someRow (allThrough (cellsIf five) (marksIn (now (v .entry)) (now (h .entry)) (now (a .entry)) (now (d .entry))) p)) ⌝ }
@@ -71,7 +34,14 @@ fn some_at(v: &[u16; 26], h: &[u16; 26], a: &[u16; 26], d: &[u16; 26], i: usize,
 }
 
 // ""More than one" means starts on two lines, or on one line a set not contained in {j, j+1}."
-fn more_at(v: &[u16; 26], h: &[u16; 26], a: &[u16; 26], d: &[u16; 26], i: usize, five: bool) -> u16
+pub(crate) fn more_at(
+    v: &[u16; 26],
+    h: &[u16; 26],
+    a: &[u16; 26],
+    d: &[u16; 26],
+    i: usize,
+    five: bool,
+) -> u16
     requires { ⌜ Marked (now v) × Marked (now h) × Marked (now a) × Marked (now d) × (5 ≤ i) × (i < 21) ⌝ }
     ensures { λ r. ⌜ Says r i
         (λ p. moreThanOne (allThrough (cellsIf five) (marksIn (now (v .entry)) (now (h .entry)) (now (a .entry)) (now (d .entry))) p)) ⌝ }
@@ -88,7 +58,7 @@ fn more_at(v: &[u16; 26], h: &[u16; 26], a: &[u16; 26], d: &[u16; 26], i: usize,
 fn met_at(m: &[u16; 26], d: u8, i: usize, five: bool) -> Met
     requires { ⌜ Marked (now m) × (d < 4) × (5 ≤ i) × (i < 21) ⌝ }
     ensures some { λ r. ⌜ Says (r .some) i (λ p. someStart (startsThrough (cellsIf five) (isMarked (now (m .entry))) d p)) ⌝ }
-    ensures apart { λ r. ⌜ Says (r .apart) i (λ p. apart (startsThrough (cellsIf five) (isMarked (now (m .entry))) d p)) ⌝ }
+    ensures apart { λ r. ⌜ Says (r .apart) i (λ p. apart 16 (startsThrough (cellsIf five) (isMarked (now (m .entry))) d p)) ⌝ }
 {
     let s0 = back(m, d, i, 0);
     let s1 = back(m, d, i, 1);

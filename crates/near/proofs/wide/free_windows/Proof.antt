@@ -2,7 +2,7 @@
 use mathlib.Core.Path.{_∙_}
 use Rattle.rules.proofs.Bits.{mask-ext, bit-not}
 use Rattle.masks.proofs.Windows.{bits, free-bit}
-use Rattle.near.proofs.Words.{wide}
+use Rattle.near.proofs.Places.{wide}
 use Rattle.near.proofs.wide.free_windows.Statement.{statement}
 use Rattle.near.proofs.wide.free_windows.Tie as tie
 

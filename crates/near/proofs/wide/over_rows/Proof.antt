@@ -1,7 +1,7 @@
 -- `near::wide::over_rows` meets its contract, bit by bit. Assumes nothing.
 use Rattle.rules.proofs.Bits.{mask-ext}
 use Rattle.masks.proofs.Windows.{bits}
-use Rattle.near.proofs.Words.{wide, shl64}
+use Rattle.near.proofs.Places.{wide, shl64}
 use Rattle.near.proofs.wide.over_rows.Statement.{statement}
 use Rattle.near.proofs.wide.over_rows.Tie as tie
 

@@ -1,7 +1,7 @@
 -- `near::wide::tally` meets its contract: bit by bit, by a table of the window's five cells. Assumes nothing.
 use Rattle.rules.proofs.Bits.{mask-ext, bit-and, bit-or, bit-xor}
 use Rattle.masks.proofs.Windows.{ones-bit, twos-bit, fours-bit, tallied-count}
-use Rattle.near.proofs.Words.{wide}
+use Rattle.near.proofs.Places.{wide}
 use Rattle.near.proofs.wide.tally.Statement.{statement}
 use Rattle.near.proofs.wide.tally.Tie as tie
 

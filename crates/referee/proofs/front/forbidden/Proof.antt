@@ -12,8 +12,8 @@ returns : tie.Need-returns
 returns c =
     not-ruled _ (c .before .forbidden-refusal .ensures) (c .if1 .taken)
 
-plain-requires : tie.Need-plain-requires
-plain-requires c κs =
+plain-on-requires : tie.Need-plain-on-requires
+plain-on-requires c κs =
     let o = c .before .before in
     let a = o .before .before .args in
     forbidden-in (a .board) (a .code) (sym (o .before .forbidden-refusal .ensures) ∙ o .if1 .left)
@@ -21,7 +21,7 @@ plain-requires c κs =
 returns-2 : tie.Need-returns-2
 returns-2 c =
     let o = c .before .before .before in
-    ruled _ (o .before .forbidden-refusal .ensures) (o .if1 .left) (c .plain .ensures .0)
+    ruled _ (o .before .forbidden-refusal .ensures) (o .if1 .left) (c .plain-on .ensures .0)
 
 pub forbidden-spec : {M : Type 1} → statement M
-forbidden-spec = tie.close (tie.spec forbidden-refusal-requires returns plain-requires returns-2)
+forbidden-spec = tie.close (tie.spec forbidden-refusal-requires returns plain-on-requires returns-2)

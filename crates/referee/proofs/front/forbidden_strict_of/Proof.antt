@@ -28,8 +28,8 @@ returns c =
     not-ruled (strictOf (f .before .before .before .before .args .cells .now) (f .before .before .before .before .args .code)) e
     (c .if1 .taken)
 
-strict-in-requires : tie.Need-strict-in-requires
-strict-in-requires c κs =
+strict-of-requires : tie.Need-strict-of-requires
+strict-of-requires c κs =
     let f = c .before in
     let s = f .before .before .before .before in
     let e = f .first .ensures ∙ ap₂ first (f .before .before .cells-refusal .ensures) (f .before .code-refusal .ensures) in
@@ -42,7 +42,7 @@ returns-2 c =
     let f = o .before in
     let s = f .before .before .before .before in
     let e = f .first .ensures ∙ ap₂ first (f .before .before .cells-refusal .ensures) (f .before .code-refusal .ensures) in
-    ruled (strictOf (s .args .cells .now) (s .args .code)) e (o .if1 .left) (c .strict-in .ensures)
+    ruled (strictOf (s .args .cells .now) (s .args .code)) e (o .if1 .left) (c .strict-of .ensures)
 
 pub forbidden-strict-of-spec : {M : Type 1} → statement M
 forbidden-strict-of-spec =
@@ -52,5 +52,5 @@ forbidden-strict-of-spec =
     code-refusal-requires
     first-requires
     returns
-    strict-in-requires
+    strict-of-requires
     returns-2)

@@ -1,29 +1,32 @@
--- `referee::front::is_double_three` meets its contract: refused, or asked on a trial. Assumes nothing.
-use mathlib.Core.Path.{sym, _∙_}
-use Rattle.board.proofs.Given.{at-in}
-use Rattle.referee.proofs.Ruled.{tested, not-tested}
-use borrow.Author.Needs.{needs}
-use Rattle.referee.proofs.front.is_double_three.Statement.{statement}
-use Rattle.referee.proofs.front.is_double_three.Tie as tie
+-- `referee::front::is_double_three` meets its contract, as `is_double_three_in` does: an instance of the shared walk. Assumes nothing.
+use mathlib.Core.Path.{_≡_}
+use contract.Running.{givenOf, tables, tablesOf}
+use denote.Enum.Laws as EL
+use denote.Triple.Spec.{tripleOf}
+use denote.Triple.Table.{entered, cited}
+use Rattle.rules.specs.Answers.{testAnswer}
+use Rattle.board.specs.Boards.{cells, refusalAt}
+use Rattle.referee.specs.Referee.{doubleThreeAt}
+use Rattle.rules.proofs.answer.TestAnswer as S
+use Rattle.rules.proofs.answer.TestAnswer.Laws as S′
+use Rattle.referee.proofs.ByValue.{by-value}
+use Rattle.referee.proofs.thin.is_double_three_in as double-in
+use Rattle.referee.proofs.thin.is_double_three_in.Symbol as double-in-def
+use Rattle.referee.proofs.thin.is_double_three_in.Symbol.{name as #double-in}
+use Rattle.referee.proofs.thin.is_double_three_in.Met as double-in-thm
+use Rattle.referee.proofs.front.is_double_three as double
+use Rattle.referee.proofs.front.is_double_three.Key.{name as #double}
+use Rattle.referee.proofs.front.is_double_three.Statement as stated
+use Rattle.referee.proofs.front.is_double_three.Code as code
 
-refusal-at-requires : tie.Need-refusal-at-requires
-refusal-at-requires c κs = search needs
-
-returns : tie.Need-returns
-returns c =
-    not-tested _ (c .before .refusal-at .ensures) (c .if1 .taken)
-
-double-three-at-requires : tie.Need-double-three-at-requires
-double-three-at-requires c κs =
-    let o = c .before .before in
-    let a = o .before .before .args in
-    at-in (a .board) (a .code) (sym (o .before .refusal-at .ensures) ∙ o .if1 .left)
-
-returns-2 : tie.Need-returns-2
-returns-2 c =
-    let o = c .before .before .before in
-    tested _ (o .before .refusal-at .ensures) (o .if1 .left) (c .double-three-at .ensures)
-
-pub is-double-three-spec : {M : Type 1} → statement M
-is-double-three-spec =
-    tie.close (tie.spec refusal-at-requires returns double-three-at-requires returns-2)
+pub is-double-three-spec : {M : Type 1} → stated.statement M
+unfolding code.routine tablesOf
+is-double-three-spec 𝓤 H 𝓜 𝓖 𝓡 =
+    entered 𝓤 H (tripleOf 𝓤 H (𝓖 .A) double.signature (double.spec 𝓤 H (𝓖 .A) (𝓜 .mem) (𝓡 .run)))
+    (tables 𝓤 H 𝓜 𝓡 code.env .C) (tables 𝓤 H 𝓜 𝓡 code.env .Λ) #double code.function (code.unfolded 𝓤 H 𝓜 𝓡)
+    (by-value 𝓤 H (𝓖 .A) (givenOf 𝓤 H 𝓜 𝓖) S.the-row
+    (λ n h r. r ≡ testAnswer (refusalAt h n) (doubleThreeAt (cells h) n))
+    (tablesOf 𝓤 H 𝓜 (tables 𝓤 H 𝓜 𝓡 code.env)) #double-in
+    (cited 𝓤 H (tripleOf 𝓤 H (𝓖 .A) double-in.signature (double-in.spec 𝓤 H (𝓖 .A) (𝓜 .mem) (𝓡 .run))) 𝓜 𝓡 code.env
+    #double-in double-in-def.routine code.calls-referee·thin·is-double-three-in (double-in-thm.met 𝓤 H 𝓜 𝓖 𝓡))
+    S′.mir (λ r v is. EL.lawful S.the-type S′.the-laws 𝓤 H (𝓖 .A) (givenOf 𝓤 H 𝓜 𝓖) tt .typed r _ is .0))

@@ -1,183 +1,66 @@
--- `referee::list::forbidden_pairs` meets its contract: after a turn the points below p are asked, or known to be none. Assumes nothing.
-use mathlib.Core.Path.{_≡_, refl, sym, subst, _∙_}
-use mathlib.Core.List.{List}
-use Prim.Native.Nat.{ℕ, _-_, _≤_}
-use native.Mathlib.Omega.{arith}
+-- `referee::list::forbidden_pairs` meets its contract. Assumes nothing.
 use borrow.Author.Needs.{needs}
-use Rattle.rules.specs.Tools.{gather}
-use Rattle.rules.specs.Forbidden.{strictOf, entry, forbiddenList}
-use Rattle.lent.specs.Lists.{zeros, Wrote}
-use Rattle.lent.proofs.Laws.{wrote-start, wrote-length, gather-step, gather-end}
-use Rattle.referee.proofs.Swept.{column-skip, lines-wanted}
-use Rattle.referee.proofs.Ruled.{pairs-short, entry-is}
+use mathlib.Core.Path.{_≡_, refl, subst}
+use mathlib.Core.List.{List}
+use Prim.Native.Nat.{ℕ}
+use Rattle.lent.specs.Lists.{zeros, padded, Held}
+use Rattle.referee.specs.Referee.{columnsOf}
+use Rattle.referee.proofs.Asked.{lines-wanted}
+use Rattle.referee.proofs.Swept.{columns-none}
 use Rattle.referee.proofs.list.forbidden_pairs.Statement.{statement}
 use Rattle.referee.proofs.list.forbidden_pairs.Tie as tie
+use Rattle.referee.proofs.list.forbidden_pairs.Reads as reads
+use Rattle.referee.proofs.list.forbidden_pairs.Lts as lts
+use Rattle.referee.proofs.list.are_many.Reads as are-many-reads
+use Rattle.referee.proofs.list.asked_pairs.Reads as asked-pairs-reads
+use Rattle.referee.proofs.single.lines_if.Reads as lines-if-reads
+use Rattle.sweep.proofs.marked_columns.Reads as marked-columns-reads
+use Rattle.sweep.proofs.sweep_points.Reads as sweep-points-reads
 
-abbrev Inv-loop : tie.InvT-loop
-Inv-loop cells overlines double-fours double-twos twos marked lines₀ bytes₀ n₀ p₀ lines bytes n p =
-    (lines ≡ lines₀) × (p ≤ 225) × Wrote (zeros 450) 0 (gather p (λ q. entry (strictOf cells q) q)) bytes n
+sweep-points-requires : tie.Need-sweep-points-requires
+sweep-points-requires c κs = search needs
 
-abbrev μ-loop : tie.MeasureT-loop
-μ-loop cells overlines double-fours double-twos twos marked lines₀ bytes₀ n₀ p₀ lines bytes n p =
-    225 - p
+marked-columns-requires : tie.Need-marked-columns-requires
+marked-columns-requires c κs = search needs
 
-sweep-points-requires : tie.Need-sweep-points-requires Inv-loop μ-loop
-sweep-points-requires c κs =
-    search needs
-
-marked-columns-requires : tie.Need-marked-columns-requires Inv-loop μ-loop
-marked-columns-requires c κs =
-    search needs
-
-marked-columns-requires-2 : tie.Need-marked-columns-requires-2 Inv-loop μ-loop
-marked-columns-requires-2 c κs =
-    search needs
-
-marked-columns-requires-3 : tie.Need-marked-columns-requires-3 Inv-loop μ-loop
-marked-columns-requires-3 c κs =
-    search needs
-
-lines-if-requires : tie.Need-lines-if-requires Inv-loop μ-loop
-lines-if-requires c κs =
-    search needs
-
-loop-holds : tie.Need-loop-holds Inv-loop μ-loop
-unfolding zeros
-loop-holds c =
-    (refl, omega arith, wrote-start 450 _)
-
-bit-at-requires : tie.Need-bit-at-requires Inv-loop μ-loop
-bit-at-requires c κs =
-    search needs
-
-verdict-at-requires : tie.Need-verdict-at-requires Inv-loop μ-loop
-verdict-at-requires c κs =
-    let a = c .before .before .before .before .before .before .before in
-    let l = a .before in
-    let f = l .before in
-    let o = f .before .before in
-    let t = o .before .before in
-    let w = t .before .before .before .before .before .sweep-points .ensures in
-    let s = t .before .before .before .before .before .before .before in
-    let C = s .args .cells .now in
-    let hp = c .before .before .before .before .before .before .loop-test .taken in (
-      s .pre,
-      hp,
-      (λ u. a .loop .inv .0 ∙ lines-wanted C (s .pre .long) (w .0) (w .1) (w .2) (o .marked-columns2 .ensures)
-          (f .marked-columns3 .ensures) (t .marked-columns .ensures) refl (a .loop .p) hp u (l .lines-if .ensures)),
-      w .0,
-      w .1,
-      w .2,
-    )
-
-slice-aggregate-keep : tie.Need-slice-aggregate-keep Inv-loop μ-loop
-slice-aggregate-keep c =
-    wrote-length 450 (c .before .before .before .before .before .before .before .before .before .loop .inv .2)
-
-is-kind-requires : tie.Need-is-kind-requires Inv-loop μ-loop
-is-kind-requires c κs =
-    search needs
-
-number-requires : tie.Need-number-requires Inv-loop μ-loop
-number-requires c κs =
-    search needs
-
-slice-aggregate-keep-2 : tie.Need-slice-aggregate-keep-2 Inv-loop μ-loop
-slice-aggregate-keep-2 c =
-    search needs
-
-keep-requires : tie.Need-keep-requires Inv-loop μ-loop
-keep-requires c κs =
-    search needs
-
-add-p : tie.Need-add-p Inv-loop μ-loop
-add-p c =
-    omega arith
-
-loop-less : tie.Need-loop-less Inv-loop μ-loop
-loop-less c =
-    omega arith
-
-loop-again : tie.Need-loop-again Inv-loop μ-loop
-loop-again c =
-    let a = c .before .before .before .before .before .before .before .before .before .before .before .before .before .before in
-    let s = a .before .before .before .before .before .before .before .before .before .before .before .before .before in
-    let C = s .args .cells .now in
-    let p = a .loop .p in
-    let v = c .before .before .before .before .before .before .verdict-at .ensures in
-    let hp = c .before .before .before .before .before .before .before .before .before .before .before .before .before .loop-test
-    .taken in
-    let fit = pairs-short C p in (
-      v .1 ∙ a .loop .inv .0,
-      omega arith,
-      gather-step 450 (λ q. entry (strictOf C q) q) p _ _ _ _ _ _ (a .loop .inv .2) (omega arith) (c .before .keep .ensures)
-          (sym (entry-is p (v .0) (c .before .before .before .before .is-kind .ensures) (c .before .before .before .number .ensures))),
-    )
-
-sub-p : tie.Need-sub-p Inv-loop μ-loop
-sub-p c =
-    omega arith
-
-add-p-2 : tie.Need-add-p-2 Inv-loop μ-loop
-add-p-2 c =
-    omega arith
-
-loop-less-2 : tie.Need-loop-less-2 Inv-loop μ-loop
-loop-less-2 c =
-    omega arith
-
-loop-again-2 : tie.Need-loop-again-2 Inv-loop μ-loop
-loop-again-2 c =
-    let a = c .before .before .before in
-    let l = a .before in
-    let f = l .before in
-    let o = f .before .before in
-    let t = o .before .before in
-    let w = t .before .before .before .before .before .sweep-points .ensures in
-    let s = t .before .before .before .before .before .before .before in
-    let C = s .args .cells .now in
-    let hp = c .before .before .loop-test .taken in (
-      a .loop .inv .0,
-      omega arith,
-      subst (λ (x : List ℕ). Wrote (zeros 450) 0 x (a .loop .bytes) (a .loop .n))
-          (sym (column-skip C (s .pre .long) (w .0) (w .1) (w .2) (o .marked-columns2 .ensures) (f .marked-columns3 .ensures)
-          (t .marked-columns .ensures) refl (a .loop .p) hp (sym (c .before .bit-at .ensures) ∙ c .if1 .left))) (a .loop .inv .2),
-    )
-
-returns : tie.Need-returns Inv-loop μ-loop
-unfolding forbiddenList
+returns : tie.Need-returns
+unfolding zeros padded columnsOf
 returns c =
-    let a = c .before in
-    let s = a .before .before .before .before .before .before .before .before .before .before .before .before .before in
-    let C = s .args .cells .now in
-    let fit = pairs-short C 225 in
-    let top : a .loop .p ≡ 225 = let h = a .loop .inv .1 in let k = c .loop-test .left in omega arith in
-    gather-end 450 (λ q. entry (strictOf C q) q) (a .loop .p) 225 _ _ (a .loop .inv .2) top (omega arith)
+    let m = c .before in
+    let s = m .before .before .before .before in
+    subst (λ (l : List ℕ). Held 450 l (zeros 450) 0)
+    (columns-none (s .args .cells .now) (s .pre .long) (m .before .before .sweep-points .ensures) (m .marked-columns .ensures)
+    (c .if1 .taken)) (record { buffer = refl; count = refl })
+
+are-many-requires : tie.Need-are-many-requires
+are-many-requires c κs = search needs
+
+lines-if-requires : tie.Need-lines-if-requires
+lines-if-requires c κs = search needs
+
+asked-pairs-requires : tie.Need-asked-pairs-requires
+unfolding columnsOf
+asked-pairs-requires c κs =
+    let o = c .before .before in
+    let m = o .before .before .before in
+    let s = m .before .before .before .before in (
+      s .pre,
+      (λ t. lines-wanted (o .before .are-many .result) (s .args .cells .now) (o .lines-if .ensures) t),
+      m .before .before .sweep-points .ensures,
+      m .marked-columns .ensures,
+    )
+
+returns-2 : tie.Need-returns-2
+returns-2 c = search needs
 
 pub forbidden-pairs-spec : {M : Type 1} → statement M
 forbidden-pairs-spec =
     tie.close
     (tie.spec
-    Inv-loop
-    μ-loop
     sweep-points-requires
     marked-columns-requires
-    marked-columns-requires-2
-    marked-columns-requires-3
+    returns
+    are-many-requires
     lines-if-requires
-    loop-holds
-    bit-at-requires
-    verdict-at-requires
-    slice-aggregate-keep
-    is-kind-requires
-    number-requires
-    slice-aggregate-keep-2
-    keep-requires
-    add-p
-    loop-less
-    loop-again
-    sub-p
-    add-p-2
-    loop-less-2
-    loop-again-2
-    returns)
+    asked-pairs-requires
+    returns-2)

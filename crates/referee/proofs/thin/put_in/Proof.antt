@@ -8,10 +8,10 @@ use Rattle.grid.specs.Lines.{writeOn}
 use Rattle.referee.specs.Referee.{writtenBoard}
 use Rattle.referee.proofs.Lines.{with-lines}
 use Rattle.referee.proofs.Walk.{thin-unit}
-use Rattle.referee.proofs.cycle.put_black as put-black
-use Rattle.referee.proofs.cycle.put_black.Symbol as put-black-def
-use Rattle.referee.proofs.cycle.put_black.Symbol.{name as #put-black}
-use Rattle.referee.proofs.cycle.put_black.Met as put-black-thm
+use Rattle.referee.proofs.rows.put_black as put-black
+use Rattle.referee.proofs.rows.put_black.Symbol as put-black-def
+use Rattle.referee.proofs.rows.put_black.Symbol.{name as #put-black}
+use Rattle.referee.proofs.rows.put_black.Met as put-black-thm
 use Rattle.referee.proofs.thin.put_in as put-in
 use Rattle.referee.proofs.thin.put_in.Key.{name as #put-in}
 use Rattle.referee.proofs.thin.put_in.Statement as stated
@@ -26,4 +26,4 @@ put-in-spec 𝓤 H 𝓜 𝓖 𝓡 =
     (λ n xs zs r. zs ≡ writeOn xs n 1) (λ n h h′ r. h′ ≡ writtenBoard h n 1) (λ n h zs r e. ap (with-lines h) e)
     (tablesOf 𝓤 H 𝓜 (tables 𝓤 H 𝓜 𝓡 code.env)) #put-black
     (cited 𝓤 H (tripleOf 𝓤 H (𝓖 .A) put-black.signature (put-black.spec 𝓤 H (𝓖 .A) (𝓜 .mem) (𝓡 .run))) 𝓜 𝓡 code.env
-    #put-black put-black-def.routine code.calls-referee·cycle·put-black (put-black-thm.met 𝓤 H 𝓜 𝓖 𝓡)))
+    #put-black put-black-def.routine code.calls-referee·rows·put-black (put-black-thm.met 𝓤 H 𝓜 𝓖 𝓡)))

@@ -14,7 +14,7 @@ use contract.Monad.{fact}
 use contract.Running.{givenOf, tables, tablesOf}
 use types.Kit.{Given, Item, raw, ⋆, _$_, _∵_, !, qed, by, move, keep, drop}
 use types.Run.{look, init, store, forget, stop, hop, from, load, addr, of-opd, and-then, no-more, assigns, land, returns}
-use types.Run.{enter, alloc1, alloc0, params1, pass1, pass0, free1, free0}
+use types.Run.{enter, alloc1, alloc0, params1, pass1, pass0}
 use sound.WpLaws.{FmC, fmOf}
 use denote.Laws.{Is, shows}
 use denote.Plain.{bool-lawful, nothing-lawful}
@@ -28,7 +28,7 @@ use Rattle.board.specs.Boards.{cells}
 use Rattle.board.specs.declared.board.Board.{Board}
 use Rattle.rules.specs.Forbidden.{realDouble, strictOf}
 use Rattle.referee.specs.Referee.{writtenBoard}
-use Rattle.referee.proofs.Lent.{Terms, triple, has, Ends, exits, meets, again-call, asks-nothing, asked}
+use Rattle.referee.proofs.Lent.{Terms, triple, has, Ends, exits, meets, again-call, asks-nothing, asked, eight-freed}
 use Rattle.referee.proofs.Walk.{in-board}
 use Rattle.referee.proofs.Trial.{Free, tries, may-ask, tried}
 use Rattle.referee.proofs.thin.put_in as put-in
@@ -96,9 +96,7 @@ module _ {M : Type 1} (𝓤 : URA M) (H : Heap 𝓤) (A : Atoms 𝓤) (W : Given
       assigns ! (of-opd ! (load ! (from ! (stop !)) (look ! 10 refl))) (from ! (stop !))
       (init ! 16 refl (bool-lawful 𝓤 H A W .typed r _ is .0)) $ returns ! (look ! 16 refl) $
       forget ! 2 refl $ forget ! 4 refl $ forget ! 6 refl $ forget ! 8 refl $ forget ! 10 refl $ forget ! 12 refl $ forget ! 14 refl $
-      forget ! 16 refl $ move ! (16 ∷ 17 ∷ []) $ free1 ! $ move ! (14 ∷ 15 ∷ []) $ free1 ! $ move ! (12 ∷ 13 ∷ []) $ free1 ! $
-      move ! (10 ∷ 11 ∷ []) $ free1 ! $ move ! (8 ∷ 9 ∷ []) $ free1 ! $ move ! (6 ∷ 7 ∷ []) $ free1 ! $ move ! (4 ∷ 5 ∷ []) $ free1 ! $
-      move ! (2 ∷ 3 ∷ []) $ free1 ! $ free0 ! $ keep ! (0 ∷ 1 ∷ []) $
+      forget ! 16 refl $ eight-freed ! $ keep ! (0 ∷ 1 ∷ []) $
       by ! (exits 𝓤 H A (tries 𝓤) κ q b o γ n W fits h r w h₃ (tried h n free h₁ h₂ h₃ r e₁ e₂ e₃)))))))))))))))))
 
 pub trial-in-spec : {M : Type 1} → stated.statement M

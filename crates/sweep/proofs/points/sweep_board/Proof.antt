@@ -1,145 +1,149 @@
--- `sweep::points::sweep_board` meets its contract. The places are named by what has just been called: w the whole board, v, h, a and d
--- the rows of a direction, f the fives, o the open points, s the Overlinings and t the Swords through them. Assumes nothing.
+-- `sweep::points::sweep_board` meets its contract, mask by mask. The places are named by what has just been called: w the whole board, v,
+-- h, a and d the rows of a direction, t the loop's test, o and f the Overlinings and the Swords through the points. Assumes nothing.
+use mathlib.Core.Path.{_≡_}
+use Prim.Native.Nat.{_≤_, _-_}
 use native.Mathlib.Omega.{arith}
-use Rattle.sweep.proofs.Marks.{as-marked}
-use Rattle.sweep.proofs.Board.{overlines, double-fours, double-twos}
+use Rattle.lent.specs.Lists.{zeros}
+use Rattle.grid.proofs.Filled.{filled}
+use Rattle.sweep.specs.Marks.{rowOf, askedAt, isMarked, AllRows}
+use Rattle.sweep.proofs.Marks.{as-marked, rows-start, rows-more, rows-end}
+use Rattle.sweep.proofs.Board.{asked-row}
 use borrow.Author.Needs.{needs}
 use Rattle.sweep.proofs.points.sweep_board.Statement.{statement}
 use Rattle.sweep.proofs.points.sweep_board.Tie as tie
 
-marks-of-requires : tie.Need-marks-of-requires
+abbrev Inv-loop : tie.InvT-loop
+Inv-loop cells blacks whites all v h a d asked₀ i₀ asked i =
+    (5 ≤ i) × (i ≤ 21) × (asked ≡ filled 26 (rowOf (askedAt cells)) i)
+    × AllRows (isMarked blacks) (isMarked whites) 0 (v .twos) (v .swords) (v .overs)
+    × AllRows (isMarked blacks) (isMarked whites) 1 (h .twos) (h .swords) (h .overs)
+    × AllRows (isMarked blacks) (isMarked whites) 2 (a .twos) (a .swords) (a .overs)
+    × AllRows (isMarked blacks) (isMarked whites) 3 (d .twos) (d .swords) (d .overs)
+
+abbrev μ-loop : tie.MeasureT-loop
+μ-loop cells blacks whites all v h a d asked₀ i₀ asked i = 21 - i
+
+marks-of-requires : tie.Need-marks-of-requires Inv-loop μ-loop
 marks-of-requires c κs = search needs
 
-marks-of-requires-2 : tie.Need-marks-of-requires-2
+marks-of-requires-2 : tie.Need-marks-of-requires-2 Inv-loop μ-loop
 marks-of-requires-2 c κs = search needs
 
-whole-requires : tie.Need-whole-requires
+whole-requires : tie.Need-whole-requires Inv-loop μ-loop
 whole-requires c κs = search needs
 
-rows-in-requires : tie.Need-rows-in-requires
+rows-in-requires : tie.Need-rows-in-requires Inv-loop μ-loop
 rows-in-requires c κs =
     let w = c .before .before .before in
     (as-marked _ (w .before .before .marks-of .ensures), as-marked _ (w .before .marks-of2 .ensures), w .whole .ensures, omega arith)
 
-rows-in-requires-2 : tie.Need-rows-in-requires-2
+rows-in-requires-2 : tie.Need-rows-in-requires-2 Inv-loop μ-loop
 rows-in-requires-2 c κs =
     let w = c .before .before .before .before .before .before .before in
     (as-marked _ (w .before .before .marks-of .ensures), as-marked _ (w .before .marks-of2 .ensures), w .whole .ensures, omega arith)
 
-rows-in-requires-3 : tie.Need-rows-in-requires-3
+rows-in-requires-3 : tie.Need-rows-in-requires-3 Inv-loop μ-loop
 rows-in-requires-3 c κs =
     let w = c .before .before .before .before .before .before .before .before .before .before .before in
     (as-marked _ (w .before .before .marks-of .ensures), as-marked _ (w .before .marks-of2 .ensures), w .whole .ensures, omega arith)
 
-rows-in-requires-4 : tie.Need-rows-in-requires-4
+rows-in-requires-4 : tie.Need-rows-in-requires-4 Inv-loop μ-loop
 rows-in-requires-4 c κs =
     let w = c .before .before .before .before .before .before .before .before .before .before .before .before .before .before .before in
     (as-marked _ (w .before .before .marks-of .ensures), as-marked _ (w .before .marks-of2 .ensures), w .whole .ensures, omega arith)
 
-some-row-requires : tie.Need-some-row-requires
-some-row-requires c κs =
-    let d = c .before .before .before .before .before .before .before .before .before in
-    let a = d .before .before .before .before in
-    let h = a .before .before .before .before in
-    let v = h .before .before .before .before in (
-      as-marked _ (v .before .before .before .before .whole .ensures),
-      as-marked _ (v .rows-in .ensures .fours),
-      as-marked _ (h .rows-in2 .ensures .fours),
-      as-marked _ (a .rows-in3 .ensures .fours),
-      as-marked _ (d .rows-in4 .ensures .fours),
-    )
-
-open-points-requires : tie.Need-open-points-requires
-open-points-requires c κs =
-    let s = c .before .before .before .before in
-    let d = s .before .before .before .before .before .before .before .before .before .before in
-    let h = d .before .before .before .before .before .before .before .before in
-    let w = h .before .before .before .before .before .before .before .before in (
-      as-marked _ (w .before .before .marks-of .ensures),
-      as-marked _ (w .before .marks-of2 .ensures),
-      as-marked _ (s .some-row .ensures),
-      w .whole .ensures,
-    )
-
-some-row-requires-2 : tie.Need-some-row-requires-2
-some-row-requires-2 c κs =
-    let o = c .before .before .before .before .before .before .before .before .before in
-    let f = o .before .before .before .before .before in
-    let d = f .before .before .before .before .before .before .before .before .before .before in
-    let a = d .before .before .before .before in
-    let h = a .before .before .before .before in
-    let v = h .before .before .before .before in (
-      as-marked _ (o .open-points .ensures),
-      as-marked _ (v .rows-in .ensures .overs),
-      as-marked _ (h .rows-in2 .ensures .overs),
-      as-marked _ (a .rows-in3 .ensures .overs),
-      as-marked _ (d .rows-in4 .ensures .overs),
-    )
-
-more-than-one-requires : tie.Need-more-than-one-requires
-more-than-one-requires c κs =
-    let s = c .before .before .before .before .before .before .before .before .before in
-    let o = s .before .before .before .before .before .before .before .before .before .before in
-    let f = o .before .before .before .before .before in
-    let d = f .before .before .before .before .before .before .before .before .before .before in
-    let a = d .before .before .before .before in
-    let h = a .before .before .before .before in
-    let v = h .before .before .before .before in (
-      as-marked _ (o .open-points .ensures),
-      as-marked _ (v .rows-in .ensures .swords),
-      as-marked _ (h .rows-in2 .ensures .swords),
-      as-marked _ (a .rows-in3 .ensures .swords),
-      as-marked _ (d .rows-in4 .ensures .swords),
-    )
-
-more-than-one-requires-2 : tie.Need-more-than-one-requires-2
-more-than-one-requires-2 c κs =
-    let t = c .before .before .before .before .before .before .before .before .before in
-    let s = t .before .before .before .before .before .before .before .before .before .before in
-    let o = s .before .before .before .before .before .before .before .before .before .before in
-    let f = o .before .before .before .before .before in
-    let d = f .before .before .before .before .before .before .before .before .before .before in
-    let a = d .before .before .before .before in
-    let h = a .before .before .before .before in
-    let v = h .before .before .before .before in (
-      as-marked _ (o .open-points .ensures),
-      as-marked _ (v .rows-in .ensures .twos),
-      as-marked _ (h .rows-in2 .ensures .twos),
-      as-marked _ (a .rows-in3 .ensures .twos),
-      as-marked _ (d .rows-in4 .ensures .twos),
-    )
-
-returns : tie.Need-returns
-returns c =
-    let t = c .before .before .before .before .before .before .before .before .before .before in
-    let s = t .before .before .before .before .before .before .before .before .before .before in
-    let o = s .before .before .before .before .before .before .before .before .before .before in
-    let f = o .before .before .before .before .before in
-    let d = f .before .before .before .before .before .before .before .before .before .before in
-    let a = d .before .before .before .before in
+loop-holds : tie.Need-loop-holds Inv-loop μ-loop
+unfolding zeros
+loop-holds c =
+    let a = c .before .before .before .before in
     let h = a .before .before .before .before in
     let v = h .before .before .before .before in
-    let w = v .before .before .before .before in
-    let start = w .before .before .before .before in
-    let cells = start .args .cells .now in
-    let eb = w .before .before .marks-of .ensures in
-    let ew = w .before .marks-of2 .ensures in
-    let el = w .whole .ensures in
-    let rv = v .rows-in .ensures in
-    let rh = h .rows-in2 .ensures in
-    let ra = a .rows-in3 .ensures in
-    let rd = d .rows-in4 .ensures in
-    let ef = f .some-row .ensures in
-    let eo = o .open-points .ensures in (
-      overlines cells (start .pre) eb ew el rv rh ra rd ef eo (s .some-row2 .ensures),
-      double-fours cells (start .pre) eb ew el rv rh ra rd ef eo (t .more-than-one .ensures),
-      double-twos cells (start .pre) eb ew el rv rh ra rd ef eo (c .more-than-one2 .ensures),
+    (omega arith, omega arith, rows-start _, v .rows-in .ensures, h .rows-in2 .ensures, a .rows-in3 .ensures, c .rows-in4 .ensures)
+
+some-at-requires : tie.Need-some-at-requires Inv-loop μ-loop
+some-at-requires c κs =
+    let t = c .before .before .before .before .before .before .before .before in
+    let (low, high, done, v, h, a, d) = t .before .loop .inv in
+    (as-marked _ (v .overs), as-marked _ (h .overs), as-marked _ (a .overs), as-marked _ (d .overs), low, t .loop-test .taken)
+
+more-at-requires : tie.Need-more-at-requires Inv-loop μ-loop
+more-at-requires c κs =
+    let o = c .before .before .before .before .before .before .before .before in
+    let t = o .before .before .before .before .before .before .before .before .before in
+    let (low, high, done, v, h, a, d) = t .before .loop .inv in
+    (as-marked _ (v .swords), as-marked _ (h .swords), as-marked _ (a .swords), as-marked _ (d .swords), low, t .loop-test .taken)
+
+more-at-requires-2 : tie.Need-more-at-requires-2 Inv-loop μ-loop
+more-at-requires-2 c κs =
+    let f = c .before .before .before .before .before .before .before .before in
+    let o = f .before .before .before .before .before .before .before .before .before in
+    let t = o .before .before .before .before .before .before .before .before .before in
+    let (low, high, done, v, h, a, d) = t .before .loop .inv in
+    (as-marked _ (v .twos), as-marked _ (h .twos), as-marked _ (a .twos), as-marked _ (d .twos), low, t .loop-test .taken)
+
+mul-asked : tie.Need-mul-asked Inv-loop μ-loop
+mul-asked c = search needs
+
+array-read-asked : tie.Need-array-read-asked Inv-loop μ-loop
+array-read-asked c = search needs
+
+mul-asked-2 : tie.Need-mul-asked-2 Inv-loop μ-loop
+mul-asked-2 c = search needs
+
+array-read-asked-2 : tie.Need-array-read-asked-2 Inv-loop μ-loop
+array-read-asked-2 c = search needs
+
+mul-asked-3 : tie.Need-mul-asked-3 Inv-loop μ-loop
+mul-asked-3 c = search needs
+
+array-read-asked-3 : tie.Need-array-read-asked-3 Inv-loop μ-loop
+array-read-asked-3 c = search needs
+
+mul-asked-4 : tie.Need-mul-asked-4 Inv-loop μ-loop
+mul-asked-4 c = search needs
+
+array-write-asked : tie.Need-array-write-asked Inv-loop μ-loop
+array-write-asked c = search needs
+
+add-i : tie.Need-add-i Inv-loop μ-loop
+add-i c = omega arith
+
+loop-less : tie.Need-loop-less Inv-loop μ-loop
+loop-less c = omega arith
+
+loop-again : tie.Need-loop-again Inv-loop μ-loop
+loop-again c =
+    let f = c .before .before .before .before .before .before .before .before .before in
+    let o = f .before .before .before .before .before .before .before .before .before in
+    let t = o .before .before .before .before .before .before .before .before .before in
+    let l = t .before in
+    let d = l .before in
+    let w = d .before .before .before .before .before .before .before .before .before .before .before .before .before .before .before .before in
+    let s = w .before .before .before .before in
+    let i = l .loop .i in
+    let more = t .loop-test .taken in
+    let (low, high, done, v, h, a, d) = l .loop .inv in (
+      omega arith,
+      omega arith,
+      rows-more _ i (omega arith) done
+          (asked-row (s .args .cells .now) (w .before .before .marks-of .ensures) (w .before .marks-of2 .ensures) v h a d (s .pre)
+          (w .whole .ensures) i (omega arith) (o .some-at .ok) (f .more-at .ok) (c .more-at2 .ok) (o .some-at .ensures)
+          (f .more-at .ensures) (c .more-at2 .ensures)),
+      v,
+      h,
+      a,
+      d,
     )
+
+returns : tie.Need-returns Inv-loop μ-loop
+returns c = rows-end _ (c .before .loop .i) (omega arith) (omega arith) (c .before .loop .inv .2)
 
 pub sweep-board-spec : {M : Type 1} → statement M
 sweep-board-spec =
     tie.close
     (tie.spec
+    Inv-loop
+    μ-loop
     marks-of-requires
     marks-of-requires-2
     whole-requires
@@ -147,9 +151,19 @@ sweep-board-spec =
     rows-in-requires-2
     rows-in-requires-3
     rows-in-requires-4
-    some-row-requires
-    open-points-requires
-    some-row-requires-2
-    more-than-one-requires
-    more-than-one-requires-2
+    loop-holds
+    some-at-requires
+    more-at-requires
+    more-at-requires-2
+    mul-asked
+    array-read-asked
+    mul-asked-2
+    array-read-asked-2
+    mul-asked-3
+    array-read-asked-3
+    mul-asked-4
+    array-write-asked
+    add-i
+    loop-less
+    loop-again
     returns)

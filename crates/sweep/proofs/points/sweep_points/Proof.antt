@@ -1,13 +1,13 @@
 -- `sweep::points::sweep_points` meets its contract. Assumes nothing.
 use Rattle.lent.specs.Lists.{zeros}
-use Rattle.sweep.proofs.Board.{open-none}
+use Rattle.sweep.proofs.Board.{asked-none}
 use borrow.Author.Needs.{needs}
 use Rattle.sweep.proofs.points.sweep_points.Statement.{statement}
 use Rattle.sweep.proofs.points.sweep_points.Tie as tie
 
 returns : tie.Need-returns
 unfolding zeros
-returns c = (open-none _ _ (c .if1 .taken), open-none _ _ (c .if1 .taken), open-none _ _ (c .if1 .taken))
+returns c = asked-none _ (c .if1 .taken)
 
 sweep-board-requires : tie.Need-sweep-board-requires
 sweep-board-requires c κs = search needs

@@ -1,5 +1,6 @@
 -- `board::board::Board::row_starts_on` meets its contract: on sound lines these are the rows through the point. Assumes nothing.
-use Rattle.board.proofs.Given.{starts-given, starts-sound, rows-on-in}
+use Rattle.board.proofs.Given.{starts-given, rows-on-in}
+use Rattle.grid.proofs.RowStarts.{starts-masks}
 use borrow.Author.Needs.{needs}
 use Rattle.board.proofs.board.Board.row_starts_on.Statement.{statement}
 use Rattle.board.proofs.board.Board.row_starts_on.Tie as tie
@@ -32,7 +33,7 @@ returns c =
     )
     (starts-given _ _ _ (λ e.
     let h = rows-on-in (a .self) (a .code) (a .colour) (a .kind) e in
-    starts-sound _ _ (a .self .lines) (a .code) (h .0) (h .1)))
+    starts-masks _ _ (a .self .lines) (a .code) (h .0) (h .1)))
 
 pub row-starts-on-spec : {M : Type 1} → statement M
 row-starts-on-spec =

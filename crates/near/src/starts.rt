@@ -1,0 +1,46 @@
+// What section 5 asks of four start masks, and the walk from start to start. The number of a start is 16 times its direction, and its cell.
+use super::words::joined;
+ghost use mathlib.Core.Path.{_≡_};
+ghost use Prim.Native.Nat.{_<_};
+ghost use Rattle.rules.specs.Bit.{maskOf};
+ghost use Rattle.rules.specs.Grid.{startsOf};
+ghost use Rattle.rules.specs.Forbidden.{someRow, moreThanOne};
+ghost use Rattle.near.specs.Places.{numbered, nextFrom};
+
+// "some line has [a row] through p"
+pub fn some_row(starts: [u16; 4]) -> bool
+    ensures { λ r. ⌜ r ≡ someRow (startsOf starts) ⌝ }
+{
+    word_of(starts) != 0
+}
+
+// ""More than one" means starts on two lines, or on one line a set not contained in {j, j+1}." Past the first start and the next place one
+// is left: starts of two lines are never next to one another, since no row starts at bit 15. The last place stands in for the first start
+// where there is none, so that no branch is needed.
+pub fn more_than_one(starts: [u16; 4]) -> bool
+    ensures { λ r. ⌜ r ≡ moreThanOne (startsOf starts) ⌝ }
+{
+    let word = word_of(starts);
+    word & !(3u64 << u64::trailing_zeros(word | 1u64 << 63)) != 0
+}
+
+// The number of the first start from a number on; 64 where there is none.
+pub fn next_start(starts: [u16; 4], from: u8) -> u8
+    ensures { λ r. ⌜ r ≡ nextFrom (numbered (startsOf starts)) from ⌝ }
+{
+    if 64 <= from {
+        return 64;
+    }
+    let rest = word_of(starts) >> from;
+    if rest == 0 {
+        return 64;
+    }
+    from + (u64::trailing_zeros(rest) as u8)
+}
+
+// All four lines' starts by their numbers.
+fn word_of(starts: [u16; 4]) -> u64
+    ensures { λ r. ⌜ r ≡ maskOf 64 (numbered (startsOf starts)) ⌝ }
+{
+    joined(starts) & 0x7FFF7FFF7FFF7FFF
+}

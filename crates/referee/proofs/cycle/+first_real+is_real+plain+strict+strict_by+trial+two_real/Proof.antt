@@ -1,0 +1,590 @@
+-- The seven functions of the cycle meet their contracts. What falls at each call is seven times the number of empty points, and a little:
+-- on one board `two_real` 7, `first_real` 6, `is_real` 5, `strict` 4, `strict_by` 3, `plain` 2, `trial` 1. Assumes nothing.
+use mathlib.Core.Path.{_≡_, refl, ap, sym, subst, _∙_}
+use mathlib.Core.List.{List}
+use native.Mathlib.Omega.{arith}
+use lib.Dec.{T}
+use borrow.Author.Needs.{needs}
+use borrow.Author.Tests.{eq-eqb}
+use Rattle.rules.specs.Numbers.{isNone}
+use Rattle.rules.specs.Grid.{empties, startsOf, rowsThrough}
+use Rattle.rules.specs.Forbidden.{mayPlay, isReal, realThrees, strictOf, realDouble}
+use Rattle.rules.specs.declared.Player.the-variants.{Black}
+use Rattle.rules.specs.declared.RowKind.the-variants.{Three}
+use Rattle.rules.proofs.Logic.{true-T}
+use Rattle.rules.proofs.Gap.{real-eye}
+use Rattle.near.specs.Places.{numbered, nextFrom}
+use Rattle.near.proofs.Next.{next-ge, next-past}
+use Rattle.grid.specs.Lines.{cellsOf, Sound}
+use Rattle.grid.proofs.Lines.{length-cellsOf}
+use Rattle.referee.specs.Referee.{plainBy, strictBy}
+use Rattle.referee.proofs.RowsSeen.{strict-is, triable}
+use Rattle.referee.proofs.EyeFound.{eye-small}
+use Rattle.referee.proofs.Search.{to-start, three-there, found, passed, real-one, real-two}
+use Rattle.referee.proofs.Asked.{cell-is, free-is, asked-taken, on-sound, on-cells, on-fewer, on-threes, added, lifted, fewer}
+use Prim.Native.Nat.{ℕ, _+_, _-_, _*_, _/_, _%_, _<_}
+use borrow.Fn.Kinds.{In}
+use borrow.Fn.PlainCycle.{Measures, is, falls, and}
+use Rattle.referee.proofs.cycle.first_real.Reads as first-real
+use Rattle.referee.proofs.cycle.first_real.Kinds as first-real-kinds
+use Rattle.referee.proofs.cycle.+first_real+is_real+plain+strict+strict_by+trial+two_real.Lts-first_real as first-real-lts
+use Rattle.referee.proofs.cycle.is_real.Reads as is-real
+use Rattle.referee.proofs.cycle.is_real.Kinds as is-real-kinds
+use Rattle.referee.proofs.cycle.+first_real+is_real+plain+strict+strict_by+trial+two_real.Lts-is_real as is-real-lts
+use Rattle.referee.proofs.cycle.plain.Reads as plain
+use Rattle.referee.proofs.cycle.plain.Kinds as plain-kinds
+use Rattle.referee.proofs.cycle.+first_real+is_real+plain+strict+strict_by+trial+two_real.Lts-plain as plain-lts
+use Rattle.referee.proofs.cycle.strict.Reads as strict
+use Rattle.referee.proofs.cycle.strict.Kinds as strict-kinds
+use Rattle.referee.proofs.cycle.+first_real+is_real+plain+strict+strict_by+trial+two_real.Lts-strict as strict-lts
+use Rattle.referee.proofs.cycle.strict_by.Reads as strict-by
+use Rattle.referee.proofs.cycle.strict_by.Kinds as strict-by-kinds
+use Rattle.referee.proofs.cycle.+first_real+is_real+plain+strict+strict_by+trial+two_real.Lts-strict_by as strict-by-lts
+use Rattle.referee.proofs.cycle.trial.Reads as trial
+use Rattle.referee.proofs.cycle.trial.Kinds as trial-kinds
+use Rattle.referee.proofs.cycle.+first_real+is_real+plain+strict+strict_by+trial+two_real.Lts-trial as trial-lts
+use Rattle.referee.proofs.cycle.two_real.Reads as two-real
+use Rattle.referee.proofs.cycle.two_real.Kinds as two-real-kinds
+use Rattle.referee.proofs.cycle.+first_real+is_real+plain+strict+strict_by+trial+two_real.Lts-two_real as two-real-lts
+use Rattle.grid.proofs.cell_of.Reads as cell-of-reads
+use Rattle.grid.proofs.add_on.Reads as add-on-reads
+use Rattle.grid.proofs.lift_on.Reads as lift-on-reads
+use Rattle.near.proofs.more_than_one.Reads as more-than-one-reads
+use Rattle.near.proofs.next_start.Reads as next-start-reads
+use Rattle.near.proofs.some_row.Reads as some-row-reads
+use Rattle.referee.proofs.eye.eye_of.Reads as eye-of-reads
+use Rattle.referee.proofs.rows.rows_on.Reads as rows-on-reads
+use Rattle.rules.proofs.Verdict.is_none.Reads as is-none-reads
+use Rattle.referee.proofs.cycle.+first_real+is_real+plain+strict+strict_by+trial+two_real.{
+  statement,
+}
+use Rattle.referee.proofs.cycle.+first_real+is_real+plain+strict+strict_by+trial+two_real.Tie.{
+  close,
+}
+
+abbrev μ-first-real : Measures 1 first-real-kinds.ps ℕ
+μ-first-real κs a = 7 * empties (cellsOf (a .0 .now)) + 6
+
+abbrev μ-is-real : Measures 1 is-real-kinds.ps ℕ
+μ-is-real κs a = 7 * empties (cellsOf (a .0 .now)) + 5
+
+abbrev μ-plain : Measures 1 plain-kinds.ps ℕ
+μ-plain κs a = 7 * empties (cellsOf (a .0 .now)) + 2
+
+abbrev μ-strict : Measures 1 strict-kinds.ps ℕ
+μ-strict κs a = 7 * empties (cellsOf (a .0 .now)) + 4
+
+abbrev μ-strict-by : Measures 1 strict-by-kinds.ps ℕ
+μ-strict-by κs a = 7 * empties (cellsOf (a .0 .now)) + 3
+
+abbrev μ-trial : Measures 1 trial-kinds.ps ℕ
+μ-trial κs a = 7 * empties (cellsOf (a .0 .now)) + 1
+
+abbrev μ-two-real : Measures 1 two-real-kinds.ps ℕ
+μ-two-real κs a = 7 * empties (cellsOf (a .0 .now)) + 7
+
+abbrev first-real-at : ℕ → In 1 first-real-kinds.ps
+first-real-at t =
+    and 1 first-real-kinds.ps (is 1 first-real-kinds.ps μ-first-real t) first-real.Pre
+
+abbrev first-real-below : ℕ → In 1 first-real-kinds.ps
+first-real-below t =
+    and 1 first-real-kinds.ps (falls 1 first-real-kinds.ps _<_ μ-first-real t) first-real.Pre
+
+abbrev is-real-at : ℕ → In 1 is-real-kinds.ps
+is-real-at t = and 1 is-real-kinds.ps (is 1 is-real-kinds.ps μ-is-real t) is-real.Pre
+
+abbrev is-real-below : ℕ → In 1 is-real-kinds.ps
+is-real-below t = and 1 is-real-kinds.ps (falls 1 is-real-kinds.ps _<_ μ-is-real t) is-real.Pre
+
+abbrev plain-at : ℕ → In 1 plain-kinds.ps
+plain-at t = and 1 plain-kinds.ps (is 1 plain-kinds.ps μ-plain t) plain.Pre
+
+abbrev plain-below : ℕ → In 1 plain-kinds.ps
+plain-below t = and 1 plain-kinds.ps (falls 1 plain-kinds.ps _<_ μ-plain t) plain.Pre
+
+abbrev strict-at : ℕ → In 1 strict-kinds.ps
+strict-at t = and 1 strict-kinds.ps (is 1 strict-kinds.ps μ-strict t) strict.Pre
+
+abbrev strict-below : ℕ → In 1 strict-kinds.ps
+strict-below t = and 1 strict-kinds.ps (falls 1 strict-kinds.ps _<_ μ-strict t) strict.Pre
+
+abbrev strict-by-at : ℕ → In 1 strict-by-kinds.ps
+strict-by-at t = and 1 strict-by-kinds.ps (is 1 strict-by-kinds.ps μ-strict-by t) strict-by.Pre
+
+abbrev strict-by-below : ℕ → In 1 strict-by-kinds.ps
+strict-by-below t =
+    and 1 strict-by-kinds.ps (falls 1 strict-by-kinds.ps _<_ μ-strict-by t) strict-by.Pre
+
+abbrev trial-at : ℕ → In 1 trial-kinds.ps
+trial-at t = and 1 trial-kinds.ps (is 1 trial-kinds.ps μ-trial t) trial.Pre
+
+abbrev trial-below : ℕ → In 1 trial-kinds.ps
+trial-below t = and 1 trial-kinds.ps (falls 1 trial-kinds.ps _<_ μ-trial t) trial.Pre
+
+abbrev two-real-at : ℕ → In 1 two-real-kinds.ps
+two-real-at t = and 1 two-real-kinds.ps (is 1 two-real-kinds.ps μ-two-real t) two-real.Pre
+
+abbrev two-real-below : ℕ → In 1 two-real-kinds.ps
+two-real-below t =
+    and 1 two-real-kinds.ps (falls 1 two-real-kinds.ps _<_ μ-two-real t) two-real.Pre
+
+abbrev first-real-Inv-loop : first-real-lts.InvT-loop
+first-real-Inv-loop lines₀ code threes from three₀ lines three =
+    (lines ≡ lines₀)
+    × (nextFrom (numbered (realThrees strictOf (cellsOf lines₀) code)) from
+    ≡ nextFrom (numbered (realThrees strictOf (cellsOf lines₀) code)) three)
+    × ((n : ℕ) × (three ≡ nextFrom (numbered (startsOf threes)) n))
+
+abbrev first-real-μ-loop : first-real-lts.MeasureT-loop
+first-real-μ-loop lines₀ code threes from three₀ lines three = 64 - three
+
+-- what `first-real` is told of those that it calls
+abbrev first-real-calls : ℕ → first-real-lts.Claims
+first-real-calls t = (next-start-reads.Asked, next-start-reads.Learnt, is-real-below t, is-real.Post)
+
+-- what `is-real` is told of those that it calls
+abbrev is-real-calls : ℕ → is-real-lts.Claims
+is-real-calls t = (eye-of-reads.Asked, eye-of-reads.Learnt, strict-below t, strict.Post, is-none-reads.Asked, is-none-reads.Learnt)
+
+-- what `plain` is told of those that it calls
+abbrev plain-calls : ℕ → plain-lts.Claims
+plain-calls t = (
+  some-row-reads.Asked,
+  some-row-reads.Learnt,
+  more-than-one-reads.Asked,
+  more-than-one-reads.Learnt,
+  trial-below t,
+  trial.Post,
+)
+
+-- what `strict` is told of those that it calls
+abbrev strict-calls : ℕ → strict-lts.Claims
+strict-calls t = (cell-of-reads.Asked, cell-of-reads.Learnt, rows-on-reads.Asked, rows-on-reads.Learnt, strict-by-below t, strict-by.Post)
+
+-- what `strict-by` is told of those that it calls
+abbrev strict-by-calls : ℕ → strict-by-lts.Claims
+strict-by-calls t = (some-row-reads.Asked, some-row-reads.Learnt, plain-below t, plain.Post)
+
+-- what `trial` is told of those that it calls
+abbrev trial-calls : ℕ → trial-lts.Claims
+trial-calls t = (add-on-reads.Asked, add-on-reads.Learnt, two-real-below t, two-real.Post, lift-on-reads.Asked, lift-on-reads.Learnt)
+
+-- what `two-real` is told of those that it calls
+abbrev two-real-calls : ℕ → two-real-lts.Claims
+two-real-calls t = (first-real-below t, first-real.Post)
+
+first-real-next-start-requires : (t : ℕ) → first-real-lts.Need-next-start-requires (first-real-calls t)
+    (first-real-at t) first-real.Post first-real-Inv-loop first-real-μ-loop
+first-real-next-start-requires t c κs = search needs
+
+first-real-loop-holds : (t : ℕ) → first-real-lts.Need-loop-holds (first-real-calls t)
+    (first-real-at t) first-real.Post first-real-Inv-loop first-real-μ-loop
+first-real-loop-holds t c =
+    let s = c .before in
+    let e = c .next-start .ensures in (
+      refl,
+      to-start (cellsOf (s .args .lines .now)) (s .args .code) (s .args .threes) (s .pre .1 .2) (s .args .from) _ e,
+      (s .args .from, e),
+    )
+
+first-real-is-real-requires : (t : ℕ) → first-real-lts.Need-is-real-requires (first-real-calls t)
+    (first-real-at t) first-real.Post first-real-Inv-loop first-real-μ-loop
+first-real-is-real-requires t c κs =
+    let i = c .before in
+    let a = i .before in
+    let s = a .before .before in
+    let L = s .args .lines .now in
+    let p = s .args .code in
+    let n = a .loop .inv .2 in
+    let e = a .loop .inv .0 in
+    let three = three-there (cellsOf L) p (s .args .threes) (s .pre .1 .2) (n .0) (a .loop .three) (n .1) (i .loop-test .taken) in (
+      fewer 5 L (a .loop .lines) t e (s .pre .0),
+      (
+        subst Sound (sym e) (s .pre .1 .0),
+        s .pre .1 .1,
+        i .loop-test .taken,
+        subst (λ (l : List ℕ). T (rowsThrough Black Three (cellsOf l) p (a .loop .three / 16) (a .loop .three % 16))) (sym e) three,
+      ),
+    )
+
+first-real-returns : (t : ℕ) → first-real-lts.Need-returns (first-real-calls t)
+    (first-real-at t) first-real.Post first-real-Inv-loop first-real-μ-loop
+first-real-returns t c =
+    let r = c .before .is-real .ensures in
+    let i = c .before .before .before in
+    let a = i .before in
+    let s = a .before .before in
+    let p = s .args .code in
+    let k = a .loop .three in
+    let n = a .loop .inv .2 in
+    let e = a .loop .inv .0 in
+    let answer = r .0 ∙ ap (λ (l : List ℕ). isReal strictOf (cellsOf l) p (k / 16) (k % 16)) e in (
+      found (cellsOf (s .args .lines .now)) p (s .args .threes) (s .pre .1 .2) (n .0) k (n .1) (i .loop-test .taken) answer
+          (c .if1 .taken)
+          ∙ sym (a .loop .inv .1),
+      r .1 ∙ e,
+    )
+
+first-real-add-next-start : (t : ℕ) → first-real-lts.Need-add-next-start (first-real-calls t)
+    (first-real-at t) first-real.Post first-real-Inv-loop first-real-μ-loop
+first-real-add-next-start t c =
+    let t = c .before .before .before .loop-test .taken in
+    omega arith
+
+first-real-next-start-requires-2 : (t : ℕ) → first-real-lts.Need-next-start-requires-2 (first-real-calls t)
+    (first-real-at t) first-real.Post first-real-Inv-loop first-real-μ-loop
+first-real-next-start-requires-2 t c κs = search needs
+
+first-real-loop-less : (t : ℕ) → first-real-lts.Need-loop-less (first-real-calls t)
+    (first-real-at t) first-real.Post first-real-Inv-loop first-real-μ-loop
+first-real-loop-less t c =
+    let a = c .before .before .before .before .before in
+    let l = c .before .before .before .before .loop-test .taken in
+    let s = a .before .before in
+    let g = next-ge (numbered (startsOf (s .args .threes))) (a .loop .three + 1) (omega arith) in
+    omega (arith, c .next-start2 .ensures)
+
+first-real-loop-again : (t : ℕ) → first-real-lts.Need-loop-again (first-real-calls t)
+    (first-real-at t) first-real.Post first-real-Inv-loop first-real-μ-loop
+first-real-loop-again t c =
+    let r = c .before .before .is-real .ensures in
+    let i = c .before .before .before .before in
+    let a = i .before in
+    let s = a .before .before in
+    let C = cellsOf (s .args .lines .now) in
+    let p = s .args .code in
+    let k = a .loop .three in
+    let n = a .loop .inv .2 in
+    let e = a .loop .inv .0 in
+    let answer = r .0 ∙ ap (λ (l : List ℕ). isReal strictOf (cellsOf l) p (k / 16) (k % 16)) e in (
+      r .1 ∙ e,
+      a .loop .inv .1
+          ∙ passed C p (s .args .threes) (s .pre .1 .2) (n .0) k (n .1) (i .loop-test .taken) answer (c .before .if1 .left)
+          ∙ to-start C p (s .args .threes) (s .pre .1 .2) (k + 1) _ (c .next-start2 .ensures),
+      (k + 1, c .next-start2 .ensures),
+    )
+
+first-real-returns-2 : (t : ℕ) → first-real-lts.Need-returns-2 (first-real-calls t)
+    (first-real-at t) first-real.Post first-real-Inv-loop first-real-μ-loop
+first-real-returns-2 t c =
+    let a = c .before in
+    (sym (a .loop .inv .1 ∙ next-past _ (a .loop .three) (c .loop-test .left)), a .loop .inv .0)
+
+is-real-eye-of-requires : (t : ℕ) → is-real-lts.Need-eye-of-requires (is-real-calls t) (is-real-at t) is-real.Post
+is-real-eye-of-requires t c κs = c .before .pre .1
+
+is-real-strict-requires : (t : ℕ) → is-real-lts.Need-strict-requires (is-real-calls t) (is-real-at t) is-real.Post
+is-real-strict-requires t c κs =
+    let s = c .before .before .before in
+    let L = s .args .lines .now in
+    let m = s .pre .0 in
+    let t = s .pre .1 in (
+      omega arith,
+      (
+        t .0,
+        eye-small L (s .args .code) (s .args .three / 16) (s .args .three % 16) (t .0) (t .1) (omega (arith, t .2)) (t .3)
+            (c .before .eye-of .ensures),
+      ),
+    )
+
+is-real-is-none-requires : (t : ℕ) → is-real-lts.Need-is-none-requires (is-real-calls t) (is-real-at t) is-real.Post
+is-real-is-none-requires t c κs = search needs
+
+is-real-returns : (t : ℕ) → is-real-lts.Need-returns (is-real-calls t) (is-real-at t) is-real.Post
+unfolding mayPlay
+is-real-returns t c =
+    let v = c .before .strict .ensures in
+    let e = c .before .before .before .eye-of .ensures in
+    let s = c .before .before .before .before .before in
+    let C = cellsOf (s .args .lines .now) in
+    let t = s .pre .1 in (
+      c .is-none .ensures
+          ∙ ap isNone (v .0 ∙ ap (strictOf C) e)
+          ∙ sym (real-eye C (s .args .code) (s .args .three / 16) (s .args .three % 16) (t .1) (omega (arith, t .2)) (t .3) strictOf),
+      v .1,
+    )
+
+plain-some-row-requires : (t : ℕ) → plain-lts.Need-some-row-requires (plain-calls t) (plain-at t) plain.Post
+plain-some-row-requires t c κs = search needs
+
+plain-returns : (t : ℕ) → plain-lts.Need-returns (plain-calls t) (plain-at t) plain.Post
+unfolding plainBy
+plain-returns t c =
+    (rw (sym (c .before .some-row .ensures) ∙ c .if1 .taken) refl, refl)
+
+plain-more-than-one-requires : (t : ℕ) → plain-lts.Need-more-than-one-requires (plain-calls t) (plain-at t) plain.Post
+plain-more-than-one-requires t c κs = search needs
+
+plain-returns-2 : (t : ℕ) → plain-lts.Need-returns-2 (plain-calls t) (plain-at t) plain.Post
+unfolding plainBy
+plain-returns-2 t c =
+    let o = c .before .before in
+    (rw (sym (o .before .some-row .ensures) ∙ o .if1 .left, sym (c .before .more-than-one .ensures) ∙ c .if2 .taken) refl, refl)
+
+plain-more-than-one-requires-2 : (t : ℕ) → plain-lts.Need-more-than-one-requires-2 (plain-calls t) (plain-at t) plain.Post
+plain-more-than-one-requires-2 t c κs = search needs
+
+plain-trial-requires : (t : ℕ) → plain-lts.Need-trial-requires (plain-calls t) (plain-at t) plain.Post
+plain-trial-requires t c κs =
+    let t = c .before in
+    let s = t .before .before .before .before .before .before .before .before .before in
+    let m = s .pre .0 in
+    (omega arith, (s .pre .1 .0, s .pre .1 .1 (true-T (sym (t .before .more-than-one2 .ensures) ∙ t .if3 .taken))))
+
+plain-returns-3 : (t : ℕ) → plain-lts.Need-returns-3 (plain-calls t) (plain-at t) plain.Post
+unfolding plainBy
+plain-returns-3 t c =
+    let r = c .before .trial .ensures in
+    let t = c .before .before .before in
+    let f = t .before .before in
+    let o = f .before .before in (
+      rw (
+        sym (o .before .some-row .ensures) ∙ o .if1 .left,
+        sym (f .before .more-than-one .ensures) ∙ f .if2 .left,
+        sym (t .before .more-than-one2 .ensures) ∙ t .if3 .taken,
+        sym (r .0) ∙ c .if4 .taken,
+      )
+          refl,
+      r .1,
+    )
+
+plain-returns-4 : (t : ℕ) → plain-lts.Need-returns-4 (plain-calls t) (plain-at t) plain.Post
+unfolding plainBy
+plain-returns-4 t c =
+    let r = c .before .trial .ensures in
+    let t = c .before .before .before in
+    let f = t .before .before in
+    let o = f .before .before in (
+      rw (
+        sym (o .before .some-row .ensures) ∙ o .if1 .left,
+        sym (f .before .more-than-one .ensures) ∙ f .if2 .left,
+        sym (t .before .more-than-one2 .ensures) ∙ t .if3 .taken,
+        sym (r .0) ∙ c .if4 .left,
+      )
+          refl,
+      r .1,
+    )
+
+plain-returns-5 : (t : ℕ) → plain-lts.Need-returns-5 (plain-calls t) (plain-at t) plain.Post
+unfolding plainBy
+plain-returns-5 t c =
+    let f = c .before .before in
+    let o = f .before .before in (
+      rw (
+        sym (o .before .some-row .ensures) ∙ o .if1 .left,
+        sym (f .before .more-than-one .ensures) ∙ f .if2 .left,
+        sym (c .before .more-than-one2 .ensures) ∙ c .if3 .left,
+      )
+          refl,
+      refl,
+    )
+
+strict-cell-of-requires : (t : ℕ) → strict-lts.Need-cell-of-requires (strict-calls t) (strict-at t) strict.Post
+strict-cell-of-requires t c κs = search needs
+
+strict-returns : (t : ℕ) → strict-lts.Need-returns (strict-calls t) (strict-at t) strict.Post
+strict-returns t c =
+    let s = c .before .before .before in
+    (asked-taken (s .args .lines .now) (s .args .code) (s .pre .1 .1) (c .before .cell-of .ensures) (c .if1 .taken), refl)
+
+strict-rows-on-requires : (t : ℕ) → strict-lts.Need-rows-on-requires (strict-calls t) (strict-at t) strict.Post
+strict-rows-on-requires t c κs = c .before .before .before .before .pre .1
+
+strict-strict-by-requires : (t : ℕ) → strict-lts.Need-strict-by-requires (strict-calls t) (strict-at t) strict.Post
+strict-strict-by-requires t c κs =
+    let r = c .before in
+    let o = r .before .before in
+    let s = o .before .before .before in
+    let L = s .args .lines .now in
+    let p = s .args .code in
+    let m = s .pre .0 in
+    let free = sym (cell-is L p (s .pre .1 .1) (o .before .cell-of .ensures)) ∙ o .if1 .left in
+    (omega arith, (s .pre .1 .1, λ t. triable (cellsOf L) p (r .rows-on .ensures) L (s .pre .1 .0) refl free))
+
+strict-returns-2 : (t : ℕ) → strict-lts.Need-returns-2 (strict-calls t) (strict-at t) strict.Post
+strict-returns-2 t c =
+    let r = c .before .before in
+    let o = r .before .before in
+    let s = o .before .before .before in
+    let L = s .args .lines .now in
+    let p = s .args .code in
+    let free = free-is L p (s .pre .1 .1) (o .before .cell-of .ensures) ∙ eq-eqb _ 0 (o .if1 .left) in (
+      c .strict-by .ensures .0
+          ∙ strict-is (cellsOf L) p (r .rows-on .ensures) L (length-cellsOf L) (s .pre .1 .1) free (λ t. refl),
+      c .strict-by .ensures .1,
+    )
+
+strict-by-some-row-requires : (t : ℕ) → strict-by-lts.Need-some-row-requires (strict-by-calls t) (strict-by-at t) strict-by.Post
+strict-by-some-row-requires t c κs = search needs
+
+strict-by-returns : (t : ℕ) → strict-by-lts.Need-returns (strict-by-calls t) (strict-by-at t) strict-by.Post
+unfolding strictBy
+strict-by-returns t c =
+    (rw (sym (c .before .some-row .ensures) ∙ c .if1 .taken) refl, refl)
+
+strict-by-plain-requires : (t : ℕ) → strict-by-lts.Need-plain-requires (strict-by-calls t) (strict-by-at t) strict-by.Post
+strict-by-plain-requires t c κs =
+    let s = c .before .before .before .before in
+    let m = s .pre .0 in
+    (omega arith, s .pre .1)
+
+strict-by-returns-2 : (t : ℕ) → strict-by-lts.Need-returns-2 (strict-by-calls t) (strict-by-at t) strict-by.Post
+unfolding strictBy
+strict-by-returns-2 t c =
+    let o = c .before .before in
+    (c .plain .ensures .0 ∙ rw (sym (o .before .some-row .ensures) ∙ o .if1 .left) refl, c .plain .ensures .1)
+
+trial-add-on-requires : (t : ℕ) → trial-lts.Need-add-on-requires (trial-calls t) (trial-at t) trial.Post
+trial-add-on-requires t c κs = search needs
+
+trial-two-real-requires : (t : ℕ) → trial-lts.Need-two-real-requires (trial-calls t) (trial-at t) trial.Post
+trial-two-real-requires t c κs =
+    let s = c .before .before .before in
+    let L = s .args .lines .now in
+    let p = s .args .code in
+    let hp = s .pre .1 .0 in
+    let q = s .pre .1 .1 in
+    let w = added L p (q .sound) hp (q .free) (c .before .add-on .ensures) in
+    let m = s .pre .0 in
+    let f = on-fewer L p (q .sound) hp (q .free) w in (
+      omega arith,
+      (on-sound L p (q .sound) hp (q .free) w, hp, on-threes L p (q .sound) hp (q .free) w (q .starts)),
+    )
+
+trial-lift-on-requires : (t : ℕ) → trial-lts.Need-lift-on-requires (trial-calls t) (trial-at t) trial.Post
+trial-lift-on-requires t c κs = search needs
+
+trial-returns : (t : ℕ) → trial-lts.Need-returns (trial-calls t) (trial-at t) trial.Post
+trial-returns t c =
+    let r = c .before .before .two-real in
+    let a = c .before .before .before .before in
+    let s = a .before .before in
+    let L = s .args .lines .now in
+    let p = s .args .code in
+    let hp = s .pre .1 .0 in
+    let q = s .pre .1 .1 in
+    let w = added L p (q .sound) hp (q .free) (a .add-on .ensures) in (
+      r .ensures .0 ∙ ap (λ (C : List ℕ). realDouble strictOf C p) (on-cells L p (q .sound) hp (q .free) w),
+      lifted L p (q .sound) hp (q .free) (a .add-on .ensures) (r .ensures .1) (c .lift-on .ensures),
+    )
+
+two-real-first-real-requires : (t : ℕ) → two-real-lts.Need-first-real-requires (two-real-calls t) (two-real-at t) two-real.Post
+two-real-first-real-requires t c κs =
+    let s = c .before in
+    let m = s .pre .0 in
+    (omega arith, s .pre .1)
+
+two-real-add-first-real : (t : ℕ) → two-real-lts.Need-add-first-real (two-real-calls t) (two-real-at t) two-real.Post
+two-real-add-first-real t c =
+    let l = c .before .if1 .taken in
+    omega arith
+
+two-real-first-real-requires-2 : (t : ℕ) → two-real-lts.Need-first-real-requires-2 (two-real-calls t) (two-real-at t) two-real.Post
+two-real-first-real-requires-2 t c κs =
+    let f = c .before .before in
+    let s = f .before .before in
+    let e = f .first-real .ensures .1 in
+    (fewer 6 (s .args .lines .now) _ t e (s .pre .0), rw e (s .pre .1))
+
+two-real-returns :
+    (t : ℕ) →
+    two-real-lts.Need-returns (first-real-below t, first-real.Post) (two-real-at t) two-real.Post
+two-real-returns t c =
+    let f = c .before .before .before in
+    let s = f .before .before in
+    let p = s .args .code in
+    let e = f .first-real .ensures .1 in
+    let g = c .first-real2 .ensures in (
+      real-two (cellsOf (s .args .lines .now)) p (f .first-real .ensures .0) (c .before .before .if1 .taken)
+          (g .0 ∙ ap (λ (l : List ℕ). nextFrom (numbered (realThrees strictOf (cellsOf l) p)) (f .first-real .result + 2)) e),
+      g .1 ∙ e,
+    )
+
+two-real-returns-2 :
+    (t : ℕ) →
+    two-real-lts.Need-returns-2
+    (first-real-below t, first-real.Post)
+    (two-real-at t)
+    two-real.Post
+two-real-returns-2 t c =
+    let f = c .before in
+    let s = f .before .before in (
+      real-one (cellsOf (s .args .lines .now)) (s .args .code) (f .first-real .ensures .0) (c .if1 .left),
+      f .first-real .ensures .1,
+    )
+
+pub +first-real+is-real+plain+strict+strict-by+trial+two-real-spec : {M : Type 1} → statement M
++first-real+is-real+plain+strict+strict-by+trial+two-real-spec =
+    close
+    μ-first-real
+    μ-is-real
+    μ-plain
+    μ-strict
+    μ-strict-by
+    μ-trial
+    μ-two-real
+    (λ t. first-real-lts.spec (first-real-calls t)
+    (first-real-at t)
+    first-real.Post
+    first-real-Inv-loop
+    first-real-μ-loop
+    (first-real-next-start-requires t)
+    (first-real-loop-holds t)
+    (first-real-is-real-requires t)
+    (first-real-returns t)
+    (first-real-add-next-start t)
+    (first-real-next-start-requires-2 t)
+    (first-real-loop-less t)
+    (first-real-loop-again t)
+    (first-real-returns-2 t))
+    (λ t. is-real-lts.spec (is-real-calls t)
+    (is-real-at t)
+    is-real.Post
+    (is-real-eye-of-requires t)
+    (is-real-strict-requires t)
+    (is-real-is-none-requires t)
+    (is-real-returns t))
+    (λ t. plain-lts.spec (plain-calls t)
+    (plain-at t)
+    plain.Post
+    (plain-some-row-requires t)
+    (plain-returns t)
+    (plain-more-than-one-requires t)
+    (plain-returns-2 t)
+    (plain-more-than-one-requires-2 t)
+    (plain-trial-requires t)
+    (plain-returns-3 t)
+    (plain-returns-4 t)
+    (plain-returns-5 t))
+    (λ t. strict-lts.spec (strict-calls t)
+    (strict-at t)
+    strict.Post
+    (strict-cell-of-requires t)
+    (strict-returns t)
+    (strict-rows-on-requires t)
+    (strict-strict-by-requires t)
+    (strict-returns-2 t))
+    (λ t. strict-by-lts.spec (strict-by-calls t)
+    (strict-by-at t)
+    strict-by.Post
+    (strict-by-some-row-requires t)
+    (strict-by-returns t)
+    (strict-by-plain-requires t)
+    (strict-by-returns-2 t))
+    (λ t. trial-lts.spec (trial-calls t)
+    (trial-at t)
+    trial.Post
+    (trial-add-on-requires t)
+    (trial-two-real-requires t)
+    (trial-lift-on-requires t)
+    (trial-returns t))
+    λ t. two-real-lts.spec
+    (first-real-below t, first-real.Post)
+    (two-real-at t)
+    two-real.Post
+    (two-real-first-real-requires t)
+    (two-real-add-first-real t)
+    (two-real-first-real-requires-2 t)
+    (two-real-returns t)
+    (two-real-returns-2 t)

@@ -1,0 +1,39 @@
+-- `referee::rows::rows_on` meets its contract. Assumes nothing.
+use borrow.Author.Needs.{needs}
+use mathlib.Core.Path.{_∙_, sym, subst}
+use mathlib.Core.List.{List}
+use Prim.Native.Nat.{ℕ}
+use Rattle.rules.specs.declared.Player.the-variants.{Black, White}
+use Rattle.grid.specs.Lines.{cellsOf}
+use Rattle.referee.specs.Referee.{MasksOf}
+use Rattle.referee.proofs.RowsSeen.{rows-seen, masks-sound}
+use Rattle.referee.proofs.rows.rows_on.Statement.{statement}
+use Rattle.referee.proofs.rows.rows_on.Tie as tie
+use Rattle.referee.proofs.rows.rows_on.Reads as reads
+use Rattle.referee.proofs.rows.rows_on.Lts as lts
+use Rattle.grid.proofs.masks_through.Reads as masks-through-reads
+use Rattle.near.proofs.rows_near.Reads as rows-near-reads
+
+masks-through-requires : tie.Need-masks-through-requires
+masks-through-requires c κs = search needs
+
+masks-through-requires-2 : tie.Need-masks-through-requires-2
+masks-through-requires-2 c κs = search needs
+
+rows-near-requires : tie.Need-rows-near-requires
+rows-near-requires c κs = search needs
+
+returns : tie.Need-returns
+returns c =
+    let b = c .before .before in
+    let s = b .before in
+    let l = s .args .lines .now in
+    let p = s .args .code in
+    rows-seen (cellsOf l) _ _ p (s .pre .1)
+    (subst (MasksOf Black (cellsOf l) p) (sym (b .masks-through .ensures)) (masks-sound Black l p (s .pre .0) (s .pre .1)))
+    (subst (MasksOf White (cellsOf l) p) (sym (c .before .masks-through2 .ensures)) (masks-sound White l p (s .pre .0) (s .pre .1)))
+    (c .rows-near .ensures)
+
+pub rows-on-spec : {M : Type 1} → statement M
+rows-on-spec =
+    tie.close (tie.spec masks-through-requires masks-through-requires-2 rows-near-requires returns)

@@ -1,0 +1,60 @@
+-- The first cell of a Three's four that has no black stone is its eye. Assumes nothing.
+use mathlib.Core.Path.{_≡_, refl, subst, _∙_}
+use mathlib.Core.Bool.{Bool, true, false, not, cond}
+use mathlib.Core.List.{List}
+use Prim.Native.Nat.{ℕ, _+_, _<_}
+use native.Mathlib.Nat.{add-zero}
+use native.Mathlib.Omega.{arith}
+use lib.Dec.{T}
+use Rattle.rules.specs.Numbers.{isBlack}
+use Rattle.rules.specs.Line.{Stones, rowAt, isEye}
+use Rattle.rules.specs.Point.{lineNo, lineSize}
+use Rattle.rules.specs.Grid.{stoneAt, rowOn, eyeOn, rowsThrough}
+use Rattle.rules.specs.Forbidden.{Ask, mayPlay, isReal, gapFrom, eyeOf}
+use Rattle.rules.specs.declared.Player.the-variants.{Black, White}
+use Rattle.rules.specs.declared.RowKind.the-variants.{Three}
+use Rattle.rules.proofs.Address.{size-le, line-here, point-lt}
+use Rattle.rules.proofs.Rows.{through-row, eye-inside}
+use Rattle.rules.proofs.Eye.{firstGap, eye-some, eye-first, real-at}
+
+gap-is : (own : Stones) (j : ℕ) → j + firstGap (own j) (own (j + 1)) (own (j + 2)) ≡ gapFrom own j
+unfolding gapFrom
+gap-is own j = go (own j) (own (j + 1)) (own (j + 2))
+  where
+    go : (a b c : Bool) → j + firstGap a b c ≡ cond a (cond b (cond c (j + 3) (j + 2)) (j + 1)) j
+    go true true true = refl
+    go true true false = refl
+    go true false c = refl
+    go false b c = add-zero j
+
+gap-eye : (black : Bool) (size : ℕ) (own other : Stones) (j : ℕ) → T (rowAt black size own other Three j)
+    → T (isEye size own other Three j (gapFrom own j))
+gap-eye black size own other j t =
+    let s = eye-some black size own other j t in
+    subst (λ (e : ℕ). T (isEye size own other Three j e)) (eye-first black size own other j t (s .0) (s .2) ∙ gap-is own j) (s .2)
+
+-- ---- a Three of Black's through p, at start j of the line in direction d
+
+module _ (cells : List ℕ) (p d j : ℕ) (hp : p < 225) (hd : d < 4) (t : T (rowsThrough Black Three cells p d j)) where
+  abbrev cell : ℕ
+  cell = gapFrom (stoneAt Black cells d (lineNo d p)) j
+
+  eye-on : T (eyeOn Black Three cells d (lineNo d p) j cell)
+  unfolding eyeOn rowOn
+  eye-on =
+      gap-eye (isBlack Black) (lineSize d (lineNo d p)) (stoneAt Black cells d (lineNo d p)) (stoneAt White cells d (lineNo d p)) j
+      (through-row Black Three cells p d j t)
+
+  pub gap-inside : gapFrom (stoneAt Black cells d (lineNo d p)) j < lineSize d (lineNo d p)
+  gap-inside = eye-inside Black Three cells d (lineNo d p) j cell eye-on
+
+  pub eye-lt : eyeOf cells p d j < 225
+  unfolding eyeOf
+  eye-lt = point-lt d (lineNo d p) cell hd (line-here d p hd hp) gap-inside
+
+  -- it is real where Black may play at its eye
+  pub real-eye : (ask : Ask) → isReal ask cells p d j ≡ mayPlay ask cells (eyeOf cells p d j)
+  unfolding eyeOf
+  real-eye ask =
+      real-at ask cells p d j cell (through-row Black Three cells p d j t) eye-on
+      (let h = gap-inside in let s = size-le d (lineNo d p) in omega arith)
