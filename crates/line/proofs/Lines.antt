@@ -27,7 +27,7 @@ use Rattle.rules.specs.Answers.{numberAnswer}
 use Rattle.line.specs.Lists.{bitItem, bitList, windowItem, windowList}
 use Rattle.rules.specs.declared.answer.NumberAnswer.{NumberAnswer}
 use Rattle.line.specs.declared.line.Line.{Line}
-use Rattle.line.specs.Lines.{blacks, whites, own, other, rowsOf, emptyLine, changed, segmentOf, sizeRefusal, lineRefusal}
+use Rattle.line.specs.Lines.{blacks, whites, own, other, lineRowsAt, emptyLine, lineWith, segmentOf, sizeRefusal, lineRefusal}
 use Rattle.line.specs.Lines.{windowsCount, windowsOut}
 
 -- a colour's stones are the mask of their cells
@@ -87,10 +87,10 @@ windows-fit l starts h on =
     let c = windows-most (l .size) h in
     omega arith
 
-pub rows-fit : (l : Line) (colour kind : ℕ) → l .size < 16 → length (windowList (blacks l) (whites l) (rowsOf l colour kind)) ≤ 33
+pub rows-fit : (l : Line) (colour kind : ℕ) → l .size < 16 → length (windowList (blacks l) (whites l) (lineRowsAt l colour kind)) ≤ 33
 unfolding inside
 rows-fit l colour kind h =
-    windows-fit l (rowsOf l colour kind) h
+    windows-fit l (lineRowsAt l colour kind) h
     (λ j t. le→leb (j + 5) (l .size) (row-inside (eqb colour 1) (l .size) (own l colour) (other l colour) (kindOf kind) j t))
 
 -- what is asked of a mask's starts is what is asked of the test that the mask is of
@@ -113,11 +113,11 @@ unfolding windowsOut
 out-of l refused f out = ap (listOut refused out) (windows-of (blacks l) (whites l) f)
 
 -- a function that lists by a mask of starts: its refusal and its mask, put into what `list` gave
-pub listed : (l : Line) (refused refused′ : ℕ) (f : ℕ → Bool) (starts : ℕ) (out : List ℕ) (r : NumberAnswer) (out′ : List ℕ)
+pub windows-listed : (l : Line) (refused refused′ : ℕ) (f : ℕ → Bool) (starts : ℕ) (out : List ℕ) (r : NumberAnswer) (out′ : List ℕ)
     → refused ≡ refused′ → starts ≡ maskOf 16 f
     → (r ≡ windowsCount l refused (bit starts) out) × (out′ ≡ windowsOut l refused (bit starts) out)
     → (r ≡ windowsCount l refused′ f out) × (out′ ≡ windowsOut l refused′ f out)
-listed l refused refused′ f starts out r out′ e q h = (
+windows-listed l refused refused′ f starts out r out′ e q h = (
   h .0 ∙ ap₂ (λ (n m : ℕ). windowsCount l n (bit m) out) e q ∙ count-of l refused′ f out,
   h .1 ∙ ap₂ (λ (n m : ℕ). windowsOut l n (bit m) out) e q ∙ out-of l refused′ f out,
 )
@@ -142,16 +142,16 @@ unfolding soundAt noStone
 sound-cell size f g f′ g′ c p q t = rw (p, q) t
 
 pub changed-sound : (l : Line) (i : ℕ) (black white : Bool) → lineRefusal l ≡ 0 → i < l .size → (black && white) ≡ false
-    → lineRefusal (changed l i black white) ≡ 0
+    → lineRefusal (lineWith l i black white) ≡ 0
 unfolding lineRefusal soundLine
 changed-sound l i black white none h e =
     let p = first-none (sizeRefusal (l .size)) (unless (soundLine (l .size) (blacks l) (whites l)) 9) none in
     let s : T (allBelow 16 (soundAt (l .size) (blacks l) (whites l))) = passed (soundLine (l .size) (blacks l) (whites l)) 8 (p .1) in
     none-first (sizeRefusal (l .size)) _ (p .0)
     (pass _ 9
-    (all-intro 16 (soundAt (l .size) (blacks (changed l i black white)) (whites (changed l i black white)))
-    (λ c k. sound-cell (l .size) (placed (blacks l) i black) (placed (whites l) i white) (blacks (changed l i black white))
-    (whites (changed l i black white)) c (bit-mask 16 (placed (blacks l) i black) c k) (bit-mask 16 (placed (whites l) i white) c k)
+    (all-intro 16 (soundAt (l .size) (blacks (lineWith l i black white)) (whites (lineWith l i black white)))
+    (λ c k. sound-cell (l .size) (placed (blacks l) i black) (placed (whites l) i white) (blacks (lineWith l i black white))
+    (whites (lineWith l i black white)) c (bit-mask 16 (placed (blacks l) i black) c k) (bit-mask 16 (placed (whites l) i white) c k)
     (placed-sound (l .size) (blacks l) (whites l) i black white h e c (all-elim 16 (soundAt (l .size) (blacks l) (whites l)) s c k)))))
 
 pub new-sound : (size : ℕ) → sizeRefusal size ≡ 0 → lineRefusal (emptyLine size) ≡ 0

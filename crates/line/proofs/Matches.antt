@@ -14,8 +14,8 @@ use Rattle.rules.proofs.Around.{segment, scores-around, holds-around, last-arou
 use Rattle.segment.specs.declared.segment.Segment.{Segment}
 use Rattle.segment.specs.declared.row.Before.{Before}
 use Rattle.segment.specs.declared.row.Before.the-variants.{Is, None}
-use Rattle.segment.specs.Segments.{own, other}
-use Rattle.segment.specs.Rows.{segmentScores, segmentHolds, before, openOf, overOf, matchOf}
+use Rattle.segment.specs.Segments.{segmentOwn, segmentOther}
+use Rattle.segment.specs.Rows.{segmentScores, segmentHolds, passesBefore, openOf, overOf, matchOf}
 use Rattle.line.specs.declared.line.Line.{Line}
 use Rattle.line.specs.Lines as line
 
@@ -30,10 +30,10 @@ picked true x y j = refl
 picked false x y j = refl
 
 module _ (l : Line) (colour : ℕ) where
-  own-of : (j : ℕ) → own (line.segmentOf l j) colour ≡ segment (line.own l colour) j
+  own-of : (j : ℕ) → segmentOwn (line.segmentOf l j) colour ≡ segment (line.own l colour) j
   own-of j = picked (eqb colour 1) (l .blacks) (l .whites) j
 
-  other-of : (j : ℕ) → other (line.segmentOf l j) colour ≡ segment (line.other l colour) j
+  other-of : (j : ℕ) → segmentOther (line.segmentOf l j) colour ≡ segment (line.other l colour) j
   other-of j = picked (eqb colour 1) (l .whites) (l .blacks) j
 
   -- a window of the line, and the test of it
@@ -64,7 +64,7 @@ module _ (l : Line) (colour : ℕ) where
 
   -- both windows, told by both segments
   pair-of : (s : Segment → Bool) (w : ℕ → Bool) → ((j : ℕ) → On j → s (line.segmentOf l j) ≡ w j) → (j : ℕ) → On j
-      → (before s (beforeOf l j) && s (line.segmentOf l j)) ≡ pairAt w j
+      → (passesBefore s (beforeOf l j) && s (line.segmentOf l j)) ≡ pairAt w j
   unfolding pairAt
   pair-of s w e zero h = refl
   pair-of s w e (suc i) h =
@@ -74,7 +74,7 @@ module _ (l : Line) (colour : ℕ) where
       back : i ≡ suc i - 1
       back = omega arith
 
-  last-of : (j : ℕ) → noStone (own (line.segmentOf l j) colour) (other (line.segmentOf l j) colour) 5
+  last-of : (j : ℕ) → noStone (segmentOwn (line.segmentOf l j) colour) (segmentOther (line.segmentOf l j) colour) 5
       ≡ noStone (line.own l colour) (line.other l colour) (j + 4)
   last-of j =
       ap₂ (λ (f g : Stones). noStone f g 5) (own-of j) (other-of j) ∙ last-around (line.own l colour) (line.other l colour) j

@@ -4,7 +4,7 @@ use mathlib.Core.List.{List}
 use Prim.Native.Nat.{ℕ}
 use lib.Dec.{eqb, leb, ltb}
 use Rattle.rules.specs.Numbers.{kindOf}
-use Rattle.rules.specs.Refusals.{unless, first, colourRefusal, kindRefusal}
+use Rattle.rules.specs.Refusals.{unsound, noPlace, unless, first, colourRefusal, kindRefusal}
 use Rattle.rules.specs.Bit.{bit, maskOf, countOf}
 use Rattle.rules.specs.Line.{Stones, inside, readNumber, scores, holds, openAt, rowAt, through, soundLine, segmentMask}
 use Rattle.masks.specs.Masks.{placed}
@@ -33,33 +33,33 @@ other l colour = bit (mine colour (l .whites) (l .blacks))
 
 -- "10 .. line asked alone with size outside 5 to 15"
 unfoldable pub sizeRefusal : ℕ → ℕ
-sizeRefusal size = unless (leb 5 size && leb size 15) 10
+sizeRefusal size = unless (leb 5 size && leb size 15) noPlace
 
 -- "9 .. unsound .. line"
 unfoldable pub lineRefusal : Line → ℕ
-lineRefusal l = first (sizeRefusal (l .size)) (unless (soundLine (l .size) (blacks l) (whites l)) 9)
+lineRefusal l = first (sizeRefusal (l .size)) (unless (soundLine (l .size) (blacks l) (whites l)) unsound)
 
 -- "10 .. a cell not on its line"
 unfoldable pub cellRefusal : Line → ℕ → ℕ
-cellRefusal l i = unless (ltb i (l .size)) 10
+cellRefusal l i = unless (ltb i (l .size)) noPlace
 
 -- "10 .. a segment asked at a start over size − 5"
 unfoldable pub startRefusal : Line → ℕ → ℕ
-startRefusal l j = unless (inside (l .size) j) 10
+startRefusal l j = unless (inside (l .size) j) noPlace
 
 -- the refusal of a question about a colour; about a colour's rows of a kind; about those through a cell
-unfoldable pub refusalFor : Line → ℕ → ℕ
-refusalFor l colour = first (lineRefusal l) (colourRefusal colour)
+unfoldable pub lineRefusalFor : Line → ℕ → ℕ
+lineRefusalFor l colour = first (lineRefusal l) (colourRefusal colour)
 
-unfoldable pub rowsRefusal : Line → ℕ → ℕ → ℕ
-rowsRefusal l colour kind = first (refusalFor l colour) (kindRefusal kind)
+unfoldable pub lineRowsRefusal : Line → ℕ → ℕ → ℕ
+lineRowsRefusal l colour kind = first (lineRefusalFor l colour) (kindRefusal kind)
 
-unfoldable pub rowsOnRefusal : Line → ℕ → ℕ → ℕ → ℕ
-rowsOnRefusal l i colour kind = first (rowsRefusal l colour kind) (cellRefusal l i)
+unfoldable pub lineRowsOnRefusal : Line → ℕ → ℕ → ℕ → ℕ
+lineRowsOnRefusal l i colour kind = first (lineRowsRefusal l colour kind) (cellRefusal l i)
 
 -- .. about a cell
-unfoldable pub refusalAt : Line → ℕ → ℕ
-refusalAt l i = first (lineRefusal l) (cellRefusal l i)
+unfoldable pub lineRefusalAt : Line → ℕ → ℕ
+lineRefusalAt l i = first (lineRefusal l) (cellRefusal l i)
 
 -- ---- answers
 
@@ -67,8 +67,8 @@ abbrev pub emptyLine : ℕ → Line
 emptyLine size = record { blacks = 0; whites = 0; size = size }
 
 -- "Put replaces what stood there": the line with a cell as two tests say, one for Black and one for White
-abbrev pub changed : Line → ℕ → Bool → Bool → Line
-changed l i black white =
+abbrev pub lineWith : Line → ℕ → Bool → Bool → Line
+lineWith l i black white =
     record { blacks = maskOf 16 (placed (blacks l) i black); whites = maskOf 16 (placed (whites l) i white); size = l .size }
 
 -- the segment of the window at j
@@ -86,11 +86,11 @@ abbrev pub opensOf : Line → ℕ → ℕ → ℕ → Bool
 opensOf l colour n j = openAt (eqb colour 1) (l .size) (own l colour) (other l colour) (readNumber n) j
 
 -- a row of the colour and the kind stands at j; it stands there and goes through cell i
-abbrev pub rowsOf : Line → ℕ → ℕ → ℕ → Bool
-rowsOf l colour kind j = rowAt (eqb colour 1) (l .size) (own l colour) (other l colour) (kindOf kind) j
+abbrev pub lineRowsAt : Line → ℕ → ℕ → ℕ → Bool
+lineRowsAt l colour kind j = rowAt (eqb colour 1) (l .size) (own l colour) (other l colour) (kindOf kind) j
 
-abbrev pub rowsOn : Line → ℕ → ℕ → ℕ → ℕ → Bool
-rowsOn l i colour kind j = rowsOf l colour kind j && through (kindOf kind) i j
+abbrev pub lineRowsOn : Line → ℕ → ℕ → ℕ → ℕ → Bool
+lineRowsOn l i colour kind j = lineRowsAt l colour kind j && through (kindOf kind) i j
 
 -- ---- the starts that pass a test, with their segments, asked for into a lent buffer
 

@@ -30,8 +30,8 @@ ghost use Rattle.line.specs.Answers.{lineAnswer, segmentAnswer};
 ghost use Rattle.segment.specs.Segments.{mine};
 ghost use Rattle.line.specs.Lists.{windowList};
 ghost use Rattle.line.specs.Lines.{blacks, whites, own, other, sizeRefusal, lineRefusal, cellRefusal, startRefusal};
-ghost use Rattle.line.specs.Lines.{refusalFor, rowsRefusal, rowsOnRefusal, refusalAt, emptyLine, changed, segmentOf};
-ghost use Rattle.line.specs.Lines.{scoresOf, holdsOf, opensOf, rowsOf, rowsOn, windowsCount, windowsOut};
+ghost use Rattle.line.specs.Lines.{lineRefusalFor, lineRowsRefusal, lineRowsOnRefusal, lineRefusalAt, emptyLine, lineWith, segmentOf};
+ghost use Rattle.line.specs.Lines.{scoresOf, holdsOf, opensOf, lineRowsAt, lineRowsOn, windowsCount, windowsOut};
 
 // Bit i of a mask is cell i.
 pub struct Line {
@@ -56,9 +56,9 @@ impl Line {
     }
 
     // The line with a stone of the colour on cell i, in place of what stood there.
-    pub fn put(self, colour: u8, i: u8) -> LineAnswer
-        ensures { λ r. ⌜ r ≡ lineAnswer (first (refusalFor self colour) (cellRefusal self i))
-            (changed self i (eqb colour 1) (eqb colour 2)) ⌝ }
+    pub fn put(self, i: u8, colour: u8) -> LineAnswer
+        ensures { λ r. ⌜ r ≡ lineAnswer (first (lineRefusalFor self colour) (cellRefusal self i))
+            (lineWith self i (eqb colour 1) (eqb colour 2)) ⌝ }
     {
         let refused = first(self.refusal_for(colour), self.cell_refusal(i));
         LineAnswer::of(refused, self.with_cell(i, colour == 1, colour == 2))
@@ -66,14 +66,14 @@ impl Line {
 
     // The line with cell i empty.
     pub fn remove(self, i: u8) -> LineAnswer
-        ensures { λ r. ⌜ r ≡ lineAnswer (refusalAt self i) (changed self i false false) ⌝ }
+        ensures { λ r. ⌜ r ≡ lineAnswer (lineRefusalAt self i) (lineWith self i false false) ⌝ }
     {
         LineAnswer::of(self.refusal_at(i), self.with_cell(i, false, false))
     }
 
     // What stands on cell i.
     pub fn stone(self, i: u8) -> StoneAnswer
-        ensures { λ r. ⌜ r ≡ stoneAnswer (refusalAt self i) (blacks self i) (whites self i) ⌝ }
+        ensures { λ r. ⌜ r ≡ stoneAnswer (lineRefusalAt self i) (blacks self i) (whites self i) ⌝ }
     {
         StoneAnswer::of(
             self.refusal_at(i),
@@ -84,7 +84,7 @@ impl Line {
 
     // The cells of the colour's stones.
     pub fn stones(self, colour: u8) -> MaskAnswer
-        ensures { λ r. ⌜ r ≡ maskAnswer (refusalFor self colour) (maskOf 16 (own self colour)) ⌝ }
+        ensures { λ r. ⌜ r ≡ maskAnswer (lineRefusalFor self colour) (maskOf 16 (own self colour)) ⌝ }
     {
         MaskAnswer::of(self.refusal_for(colour), self.my(colour))
     }
@@ -119,8 +119,8 @@ impl Line {
 
     // The starts of the colour's rows of a kind, with their segments, three bytes each, and how many rows there are.
     pub fn rows(self, colour: u8, kind: u8, out: &mut [u8]) -> NumberAnswer
-        ensures { λ r. ⌜ (r ≡ windowsCount self (rowsRefusal self colour kind) (rowsOf self colour kind) (now (out .entry)))
-            × (now (out .exit) ≡ windowsOut self (rowsRefusal self colour kind) (rowsOf self colour kind) (now (out .entry))) ⌝ }
+        ensures { λ r. ⌜ (r ≡ windowsCount self (lineRowsRefusal self colour kind) (lineRowsAt self colour kind) (now (out .entry)))
+            × (now (out .exit) ≡ windowsOut self (lineRowsRefusal self colour kind) (lineRowsAt self colour kind) (now (out .entry))) ⌝ }
     {
         self.list(
             self.rows_refusal(colour, kind),
@@ -131,8 +131,8 @@ impl Line {
 
     // Those of the rows that go through cell i.
     pub fn rows_on(self, i: u8, colour: u8, kind: u8, out: &mut [u8]) -> NumberAnswer
-        ensures { λ r. ⌜ (r ≡ windowsCount self (rowsOnRefusal self i colour kind) (rowsOn self i colour kind) (now (out .entry)))
-            × (now (out .exit) ≡ windowsOut self (rowsOnRefusal self i colour kind) (rowsOn self i colour kind) (now (out .entry))) ⌝ }
+        ensures { λ r. ⌜ (r ≡ windowsCount self (lineRowsOnRefusal self i colour kind) (lineRowsOn self i colour kind) (now (out .entry)))
+            × (now (out .exit) ≡ windowsOut self (lineRowsOnRefusal self i colour kind) (lineRowsOn self i colour kind) (now (out .entry))) ⌝ }
     {
         self.list(
             self.rows_on_refusal(i, colour, kind),
@@ -143,7 +143,7 @@ impl Line {
 
     // Where the colour's rows of a kind through cell i stand.
     pub fn row_starts_on(self, i: u8, colour: u8, kind: u8) -> MaskAnswer
-        ensures { λ r. ⌜ r ≡ maskAnswer (rowsOnRefusal self i colour kind) (maskOf 16 (rowsOn self i colour kind)) ⌝ }
+        ensures { λ r. ⌜ r ≡ maskAnswer (lineRowsOnRefusal self i colour kind) (maskOf 16 (lineRowsOn self i colour kind)) ⌝ }
     {
         MaskAnswer::of(
             self.rows_on_refusal(i, colour, kind),
@@ -153,7 +153,7 @@ impl Line {
 
     // 0 where the other colour leaves no room for a five, else the colour's stones and one, which no segment's score reaches.
     pub fn score_bound(self, colour: u8) -> NumberAnswer
-        ensures { λ r. ⌜ r ≡ numberAnswer (refusalFor self colour) (boundOf (self .size) (own self colour) (other self colour)) ⌝ }
+        ensures { λ r. ⌜ r ≡ numberAnswer (lineRefusalFor self colour) (boundOf (self .size) (own self colour) (other self colour)) ⌝ }
     {
         let bound = masks::score_bound(self.my(colour), self.op(colour), self.size);
         NumberAnswer::of(self.refusal_for(colour), bound)
@@ -161,7 +161,7 @@ impl Line {
 
     // Where the colour's rows of a kind stand.
     pub fn row_starts(self, colour: u8, kind: u8) -> MaskAnswer
-        ensures { λ r. ⌜ r ≡ maskAnswer (rowsRefusal self colour kind) (maskOf 16 (rowsOf self colour kind)) ⌝ }
+        ensures { λ r. ⌜ r ≡ maskAnswer (lineRowsRefusal self colour kind) (maskOf 16 (lineRowsAt self colour kind)) ⌝ }
     {
         MaskAnswer::of(
             self.rows_refusal(colour, kind),
@@ -171,7 +171,7 @@ impl Line {
 
     // Where two neighbouring segments both score n, n modulo 8, with the stones all in the four cells they share.
     pub fn open_starts(self, colour: u8, n: u8) -> MaskAnswer
-        ensures { λ r. ⌜ r ≡ maskAnswer (refusalFor self colour) (maskOf 16 (opensOf self colour n)) ⌝ }
+        ensures { λ r. ⌜ r ≡ maskAnswer (lineRefusalFor self colour) (maskOf 16 (opensOf self colour n)) ⌝ }
     {
         let starts = masks::open_starts(
             self.my(colour),
@@ -185,15 +185,15 @@ impl Line {
 
     // The eyes of the colour's rows of a kind, each cell once.
     pub fn row_eyes(self, colour: u8, kind: u8) -> MaskAnswer
-        ensures { λ r. ⌜ r ≡ maskAnswer (rowsRefusal self colour kind)
-            (maskOf 16 (eyeOfSome (self .size) (own self colour) (other self colour) (kindOf kind) (rowsOf self colour kind))) ⌝ }
+        ensures { λ r. ⌜ r ≡ maskAnswer (lineRowsRefusal self colour kind)
+            (maskOf 16 (eyeOfSome (self .size) (own self colour) (other self colour) (kindOf kind) (lineRowsAt self colour kind))) ⌝ }
     {
         let eyes = masks::row_eyes(
             self.my(colour),
             self.op(colour),
             self.size,
             colour == 1,
-            RowKind::of(kind),
+            RowKind::or_overlined(kind),
         );
         MaskAnswer::of(self.rows_refusal(colour, kind), eyes)
     }
@@ -211,7 +211,7 @@ impl Line {
 
     // Where a segment scores n for the colour, n modulo 8.
     pub fn score_mask(self, colour: u8, n: u8) -> MaskAnswer
-        ensures { λ r. ⌜ r ≡ maskAnswer (refusalFor self colour) (maskOf 16 (scoresOf self colour n)) ⌝ }
+        ensures { λ r. ⌜ r ≡ maskAnswer (lineRefusalFor self colour) (maskOf 16 (scoresOf self colour n)) ⌝ }
     {
         let starts = masks::score_mask(self.my(colour), self.op(colour), self.size, colour == 1, n);
         MaskAnswer::of(self.refusal_for(colour), starts)
@@ -219,7 +219,7 @@ impl Line {
 
     // Where a segment is free for the colour and holds n of its stones, n modulo 8.
     pub fn count_mask(self, colour: u8, n: u8) -> MaskAnswer
-        ensures { λ r. ⌜ r ≡ maskAnswer (refusalFor self colour) (maskOf 16 (holdsOf self colour n)) ⌝ }
+        ensures { λ r. ⌜ r ≡ maskAnswer (lineRefusalFor self colour) (maskOf 16 (holdsOf self colour n)) ⌝ }
     {
         let starts = masks::count_mask(self.my(colour), self.op(colour), self.size, n);
         MaskAnswer::of(self.refusal_for(colour), starts)
@@ -247,33 +247,33 @@ impl Line {
     }
 
     fn starts_of(self, colour: u8, kind: u8) -> u16
-        ensures { λ r. ⌜ r ≡ maskOf 16 (rowsOf self colour kind) ⌝ }
+        ensures { λ r. ⌜ r ≡ maskOf 16 (lineRowsAt self colour kind) ⌝ }
     {
         masks::row_starts(
             self.my(colour),
             self.op(colour),
             self.size,
             colour == 1,
-            RowKind::of(kind),
+            RowKind::or_overlined(kind),
         )
     }
 
     fn starts_on(self, i: u8, colour: u8, kind: u8) -> u16
-        ensures { λ r. ⌜ r ≡ maskOf 16 (rowsOn self i colour kind) ⌝ }
+        ensures { λ r. ⌜ r ≡ maskOf 16 (lineRowsOn self i colour kind) ⌝ }
     {
         masks::row_starts_on(
             self.my(colour),
             self.op(colour),
             self.size,
-            colour == 1,
-            RowKind::of(kind),
             i,
+            colour == 1,
+            RowKind::or_overlined(kind),
         )
     }
 
     // The line with cell i as two tests say.
     fn with_cell(self, i: u8, black: bool, white: bool) -> Line
-        ensures { λ r. ⌜ r ≡ changed self i black white ⌝ }
+        ensures { λ r. ⌜ r ≡ lineWith self i black white ⌝ }
     {
         let blacks = set_bit(self.blacks, i, black);
         let whites = set_bit(self.whites, i, white);
@@ -311,25 +311,25 @@ impl Line {
     }
 
     fn refusal_at(self, i: u8) -> u8
-        ensures { λ r. ⌜ r ≡ refusalAt self i ⌝ }
+        ensures { λ r. ⌜ r ≡ lineRefusalAt self i ⌝ }
     {
         first(self.refusal(), self.cell_refusal(i))
     }
 
     fn refusal_for(self, colour: u8) -> u8
-        ensures { λ r. ⌜ r ≡ refusalFor self colour ⌝ }
+        ensures { λ r. ⌜ r ≡ lineRefusalFor self colour ⌝ }
     {
         first(self.refusal(), colour_refusal(colour))
     }
 
     fn rows_refusal(self, colour: u8, kind: u8) -> u8
-        ensures { λ r. ⌜ r ≡ rowsRefusal self colour kind ⌝ }
+        ensures { λ r. ⌜ r ≡ lineRowsRefusal self colour kind ⌝ }
     {
         first(self.refusal_for(colour), kind_refusal(kind))
     }
 
     fn rows_on_refusal(self, i: u8, colour: u8, kind: u8) -> u8
-        ensures { λ r. ⌜ r ≡ rowsOnRefusal self i colour kind ⌝ }
+        ensures { λ r. ⌜ r ≡ lineRowsOnRefusal self i colour kind ⌝ }
     {
         first(self.rows_refusal(colour, kind), self.cell_refusal(i))
     }

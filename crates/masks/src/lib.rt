@@ -152,7 +152,7 @@ fn starts_between(first: u8, last: u8) -> u16
 }
 
 // Where a row of the kind stands that goes through cell i.
-pub fn row_starts_on(my: u16, op: u16, size: u8, black: bool, kind: RowKind, i: u8) -> u16
+pub fn row_starts_on(my: u16, op: u16, size: u8, i: u8, black: bool, kind: RowKind) -> u16
     ensures { λ r. ⌜ r ≡ maskOf 16 (λ j. rowAt black size (bit my) (bit op) kind j && through kind i j) ⌝ }
 {
     row_starts(my, op, size, black, kind) & starts_between(first_through(kind, i), i)

@@ -4,10 +4,10 @@ use mathlib.Core.Bool.{Bool, true, false, not, _||_, cond}
 use Prim.Native.Nat.{ℕ, zero, suc, _+_, _-_, _/_, _^_, _≤_, _<_}
 use native.Mathlib.Nat.{add-comm}
 use native.Mathlib.Omega.{arith}
-use lib.Dec.{T, eqb}
-use lib.Bits.{bitOr, or-lt}
+use lib.Dec.{eqb}
+use lib.Bits.{bitOr}
 use lib.Count.{trailingZeros}
-use borrow.Author.Tests.{eq-eqb, ne-eqb}
+use borrow.Author.Tests.{ne-eqb}
 use Rattle.rules.specs.Bit.{bit}
 use Rattle.rules.specs.Forbidden.{gapFrom}
 use Rattle.rules.proofs.Logic.{true-T}

@@ -4,19 +4,19 @@ use mathlib.Core.Path.{_≡_, refl, sym, ap, ap₂, _∙_}
 use mathlib.Core.Logic.{_⊎_, inl, inr}
 use mathlib.Core.Bool.{Bool, true, false, not, _&&_, _||_, and-false}
 use mathlib.Core.List.{List}
-use Prim.Native.Nat.{ℕ, zero, suc, _+_, _-_, _*_, _/_, _%_, _^_, _≤_, _<_}
+use Prim.Native.Nat.{ℕ, zero, suc, _+_, _-_, _*_, _^_, _≤_, _<_}
 use native.Mathlib.Omega.{arith}
 use lib.Dec.{T, leb, ltb, eqb}
 use lib.ListN.{getD}
 use lib.Bits.{bitAnd, bitOr}
-use borrow.Author.Tests.{le-leb, lt-leb, lt-ltb, le-ltb, leb-true, leb-false}
+use borrow.Author.Tests.{le-leb, lt-leb, le-ltb, leb-true, leb-false}
 use Rattle.rules.specs.Tools.{anyBelow, tab}
 use Rattle.rules.specs.Bit.{bit, maskOf}
 use Rattle.rules.specs.Line.{Stones, inside, free, count, beside, dead, scores, holds, openAt, overAt, rowAt, span, through}
 use Rattle.rules.specs.Point.{lineNo, cellNo, lineSize}
 use Rattle.rules.specs.Grid.{startMasks}
 use Rattle.rules.specs.declared.RowKind.{RowKind}
-use Rattle.rules.proofs.Logic.{decide, no-true, T-true, not-intro, not-elim, not-false, and-left, and-same, and-flip, not-leb}
+use Rattle.rules.proofs.Logic.{decide, not-intro, not-elim, not-false, and-left, and-same, and-flip, not-leb}
 use Rattle.rules.proofs.Tables.{table2}
 use Rattle.rules.proofs.Bits.{bit-and, bit-mask, mask-and, mask-or, mask-not, mask-cong}
 use Rattle.rules.proofs.Lists.{tab-cong}
@@ -25,8 +25,9 @@ use Rattle.rules.proofs.Windows.{Window, scored, free-at, row-inside, span-le}
 use Rattle.masks.proofs.Windows.{open-bit, over-bit}
 use Rattle.near.specs.Places.{placeIn, pastEnd, spotAt}
 use Rattle.near.specs.Windows.{aliveWith, freeWith, pairIn}
-use Rattle.near.specs.Rows.{stonesIn, seen}
-use Rattle.near.proofs.Places.{in-line, in-cell, reach-place}
+use Rattle.near.specs.Rows.{stonesShown, seen}
+use Rattle.near.proofs.Places.{reach-place}
+use Rattle.rules.proofs.Numbered.{in-line, in-cell}
 
 -- four lines of at most 15 cells, laid out in two words: the own stones, and what is blocked
 pub record Laid (size : ℕ → ℕ) (own other : ℕ → Stones) (mine blocked : Stones) : Type 0 where
@@ -226,8 +227,8 @@ module _ (own other : List ℕ) (p : ℕ) where
 
   pub laid : {off a b mine blocked : ℕ} → off ≡ maskOf 64 (pastEnd p) → a ≡ maskOf 64 (placeIn own) → b ≡ maskOf 64 (placeIn other)
       → mine ≡ bitAnd a ((2 ^ 64 - 1) - off) → blocked ≡ bitOr b off
-      → Laid sizes (stonesIn own p) (stonesIn other p) (bit mine) (bit blocked)
-  unfolding placeIn pastEnd stonesIn
+      → Laid sizes (stonesShown own p) (stonesShown other p) (bit mine) (bit blocked)
+  unfolding placeIn pastEnd stonesShown
   laid {off} {a} {b} {mine} {blocked} eo ea eb em ew =
       record {
         small = λ d. size-le d (lineNo d p);
@@ -250,17 +251,17 @@ module _ (own other : List ℕ) (p : ℕ) where
   -- the rows of a mask that go through p, parted
   pub rows-parted : (black : Bool) (kind : RowKind) (rows : ℕ → Bool) {m spots reach : ℕ} → m ≡ maskOf 64 rows
       → spots ≡ maskOf 64 (spotAt p) → reach ≡ maskOf 64 (λ k. anyBelow (span kind) (λ i. bit spots (k + i)))
-      → ((d j : ℕ) → d < 4 → j < 16 → rows (16 * d + j) ≡ rowAt black (sizes d) (stonesIn own p d) (stonesIn other p d) kind j)
+      → ((d j : ℕ) → d < 4 → j < 16 → rows (16 * d + j) ≡ rowAt black (sizes d) (stonesShown own p d) (stonesShown other p d) kind j)
       → tab 4 (λ d. maskOf 16 (λ j. bit (bitAnd m reach) (16 * d + j))) ≡ startMasks (seen black own other p kind)
   unfolding startMasks seen
   rows-parted black kind rows {m} {spots} {reach} em es er same = tab-cong 4 _ _ (λ d hd. mask-cong 16 _ _ (λ j hj. at d j hd hj))
     where
       row : ℕ → ℕ → Bool
-      row d j = rowAt black (sizes d) (stonesIn own p d) (stonesIn other p d) kind j
+      row d j = rowAt black (sizes d) (stonesShown own p d) (stonesShown other p d) kind j
 
       short : (d j : ℕ) → T (row d j) → j + span kind ≤ 16
       short d j t =
-          let h = row-inside black (sizes d) (stonesIn own p d) (stonesIn other p d) kind j t in
+          let h = row-inside black (sizes d) (stonesShown own p d) (stonesShown other p d) kind j t in
           omega (arith, size-le d (lineNo d p), span-le kind)
 
       at : (d j : ℕ) → d < 4 → j < 16 → bit (bitAnd m reach) (16 * d + j) ≡ (through kind (cellNo d p) j && row d j)

@@ -14,13 +14,13 @@ use Rattle.rules.specs.Tools.{anyBelow, allBelow, tab}
 use Rattle.rules.specs.Bit.{bit, maskOf}
 use Rattle.rules.specs.Line.{Stones, free, beside, dead, among}
 use Rattle.rules.specs.Point.{cellNo}
-use Rattle.rules.specs.Grid.{startsOf}
+use Rattle.rules.specs.Grid.{startsOf, numbered}
 use Rattle.rules.proofs.Logic.{true-T, all-elim, both-ways, and-left, and-right, and-intro, and-flip, any-elim, any-intro, any-cong}
 use Rattle.rules.proofs.Tables.{table2, table4, table5, beq-eq}
 use Rattle.rules.proofs.Bits.{bit-or, bit-mod, bit-shr, bit-shl-in, bit-one-in, bit-above, bit-mask}
 use Rattle.rules.proofs.Bits.{mask-and, mask-not, mask-ext, mask-cong}
 use Rattle.masks.proofs.Windows.{shr-lt, shr1, shr2, shr3, shr4}
-use Rattle.near.specs.Places.{placeIn, spotAt, numbered}
+use Rattle.near.specs.Places.{placeIn, spotAt}
 
 -- ---- what the code computes stays below 2 ^ 64: `search wide` closes the goal that a word fits
 pub and64 : (a b : ℕ) → a < 2 ^ 64 → b < 2 ^ 64 → bitAnd a b < 2 ^ 64
@@ -47,13 +47,7 @@ pub ruleset wide = (and64, or64, xor64, shr64, not64, mod64)
 pub shl64 : (m j : ℕ) → j < 64 → bit ((m * 2) % 2 ^ 64) j ≡ (leb 1 j && bit m (j - 1))
 shl64 m j k = bit-shl-in m 1 64 j k
 
--- ---- places: the direction and the cell of place 16d + j
-
-pub in-line : (d j : ℕ) → j < 16 → (16 * d + j) / 16 ≡ d
-in-line d j h = omega arith
-
-pub in-cell : (d j : ℕ) → j < 16 → (16 * d + j) % 16 ≡ j
-in-cell d j h = omega arith
+-- ---- places: place 16d + j is cell j of the line in direction d
 
 -- a mask of 16 bits, moved to the places of direction n
 lane : (m n k : ℕ) → m < 65536 → (leb (16 * n) k && bit m (k - 16 * n)) ≡ (eqb (k / 16) n && bit m (k % 16))

@@ -14,13 +14,13 @@ use Rattle.rules.specs.declared.RowKind.the-variants.{Two, Sword, Four, Overlin
 use Rattle.near.specs.declared.rows.Rows.{Rows}
 
 -- the stones that four masks show on the line through p in direction d; what lies past its end is none
-unfoldable pub stonesIn : List ℕ → ℕ → ℕ → Stones
-stonesIn masks p d j = ltb j (lineSize d (lineNo d p)) && bit (getD masks d 0) j
+unfoldable pub stonesShown : List ℕ → ℕ → ℕ → Stones
+stonesShown masks p d j = ltb j (lineSize d (lineNo d p)) && bit (getD masks d 0) j
 
 -- the rows of a kind through p, by the masks of the own stones and of the other colour's
 unfoldable pub seen : Bool → List ℕ → List ℕ → ℕ → RowKind → Starts
 seen black own other p kind d j =
-    through kind (cellNo d p) j && rowAt black (lineSize d (lineNo d p)) (stonesIn own p d) (stonesIn other p d) kind j
+    through kind (cellNo d p) j && rowAt black (lineSize d (lineNo d p)) (stonesShown own p d) (stonesShown other p d) kind j
 
 -- r has the start masks of the rows of four kinds
 pub record RowsAre (rows : RowKind → Starts) (r : Rows) : Type 0 where

@@ -19,6 +19,7 @@ pub struct Rows {
 }
 
 // From the masks of the own stones and of the other colour's on the four lines; `black` says that the own colour is Black.
+// A code over 224 is no point: what it gives are rows on lines that no board has.
 pub fn rows_near(own: [u16; 4], other: [u16; 4], code: u8, black: bool) -> Rows
     ensures { λ r. ⌜ RowsAre (seen black own other code) r ⌝ }
 {

@@ -3,9 +3,8 @@ use super::words::joined;
 ghost use mathlib.Core.Path.{_≡_};
 ghost use Prim.Native.Nat.{_<_};
 ghost use Rattle.rules.specs.Bit.{maskOf};
-ghost use Rattle.rules.specs.Grid.{startsOf};
+ghost use Rattle.rules.specs.Grid.{startsOf, numbered, nextFrom};
 ghost use Rattle.rules.specs.Forbidden.{someRow, moreThanOne};
-ghost use Rattle.near.specs.Places.{numbered, nextFrom};
 
 // "some line has [a row] through p"
 pub fn some_row(starts: [u16; 4]) -> bool

@@ -3,12 +3,12 @@ use mathlib.Core.Path.{_≡_}
 use Prim.Native.Nat.{ℕ, zero, suc, _+_, _-_, _≤_, _<_}
 use native.Mathlib.Omega.{arith}
 use lib.Dec.{leb, ltb, leb→le, ltb→lt}
-use Rattle.rules.specs.Refusals.{unless}
+use Rattle.rules.specs.Refusals.{unless, codeRefusal, directionRefusal, viewRefusal, lineNoRefusal}
 use Rattle.rules.specs.Point.{lineCount, lineSize}
 use Rattle.rules.proofs.Refusals.{first-none, passed}
 use Rattle.point.specs.declared.index.Point.{Point}
 use Rattle.point.specs.declared.index.Index.{Index}
-use Rattle.point.specs.Points.{codeRefusal, directionRefusal, viewRefusal, pointRefusal, lineRefusal, indexRefusal, offsetRefusal}
+use Rattle.point.specs.Points.{pointRefusal, indexRefusal, offsetRefusal}
 
 pub code-in : (p : ℕ) → codeRefusal p ≡ 0 → p < 225
 unfolding codeRefusal
@@ -28,8 +28,8 @@ point-in p e =
     let (a, b) = first-none (unless (leb (p .x) 14) 8) (unless (leb (p .y) 14) 8) e in
     (leb→le (p .x) 14 (passed (leb (p .x) 14) 7 a), leb→le (p .y) 14 (passed (leb (p .y) 14) 7 b))
 
-pub line-in : (d i : ℕ) → lineRefusal d i ≡ 0 → (d < 4) × (i < lineCount d)
-unfolding lineRefusal
+pub line-in : (d i : ℕ) → lineNoRefusal d i ≡ 0 → (d < 4) × (i < lineCount d)
+unfolding lineNoRefusal
 line-in d i e =
     let (a, b) = first-none (directionRefusal d) (unless (ltb i (lineCount d)) 10) e in
     (direction-in d a, ltb→lt i (lineCount d) (passed (ltb i (lineCount d)) 9 b))
@@ -37,7 +37,7 @@ line-in d i e =
 pub index-in : (n : Index) → indexRefusal n ≡ 0 → (n .d < 4) × (n .i < lineCount (n .d)) × (n .j < lineSize (n .d) (n .i))
 unfolding indexRefusal
 index-in n e =
-    let (a, b) = first-none (lineRefusal (n .d) (n .i)) (unless (ltb (n .j) (lineSize (n .d) (n .i))) 10) e in (
+    let (a, b) = first-none (lineNoRefusal (n .d) (n .i)) (unless (ltb (n .j) (lineSize (n .d) (n .i))) 10) e in (
       line-in (n .d) (n .i) a .0,
       line-in (n .d) (n .i) a .1,
       ltb→lt (n .j) (lineSize (n .d) (n .i)) (passed (ltb (n .j) (lineSize (n .d) (n .i))) 9 b),
@@ -51,9 +51,9 @@ offset-in n step e =
 
 -- ---- how many lines there are, and how long they are
 
-pub count-le : (d : ℕ) → lineCount d ≤ 29
+pub lines-le : (d : ℕ) → lineCount d ≤ 29
 unfolding lineCount
-count-le zero = omega arith
-count-le (suc zero) = omega arith
-count-le (suc (suc zero)) = omega arith
-count-le (suc (suc (suc d))) = omega arith
+lines-le zero = omega arith
+lines-le (suc zero) = omega arith
+lines-le (suc (suc zero)) = omega arith
+lines-le (suc (suc (suc d))) = omega arith

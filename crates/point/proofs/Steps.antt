@@ -46,11 +46,11 @@ unfolding cellOn
 past-start i (pos n) h = absurd (omega (arith, ltb-true n 0 h))
 past-start i (negsuc n) h = refl
 
-pub cell-at : (i : Index) (z : ℤ) → ltZ z (pos 0) ≡ false → ltZ z (pos (lineSize (i .d) (i .i))) ≡ true
+pub step-cell : (i : Index) (z : ℤ) → ltZ z (pos 0) ≡ false → ltZ z (pos (lineSize (i .d) (i .i))) ≡ true
     → offset.Is (record { d = i .d; i = i .i; j = natAbs z }) ≡ cellOn i z
 unfolding cellOn
-cell-at i (pos n) h k = rw k
-cell-at i (negsuc n) h k = absurd (no-true (sym h))
+step-cell i (pos n) h k = rw k
+step-cell i (negsuc n) h k = absurd (no-true (sym h))
 
 pub past-end : (i : Index) (z : ℤ) → ltZ z (pos (lineSize (i .d) (i .i))) ≡ false → offset.None ≡ cellOn i z
 unfolding cellOn

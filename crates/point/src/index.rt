@@ -14,11 +14,11 @@ use rules::unless;
 ghost use mathlib.Core.Path.{_≡_};
 ghost use Prim.Native.Nat.{_+_, _-_};
 ghost use lib.IntN.{pos, _+ℤ_};
-ghost use Rattle.rules.specs.Refusals.{first};
+ghost use Rattle.rules.specs.Refusals.{first, codeRefusal, directionRefusal, lineNoRefusal};
 ghost use Rattle.rules.specs.Point.{codeOf, lineSize};
 ghost use Rattle.rules.specs.Answers.{numberAnswer};
 ghost use Rattle.point.specs.Answers.{pointAnswer, indexAnswer, offsetAnswer, cellOn};
-ghost use Rattle.point.specs.Points.{codeRefusal, directionRefusal, pointRefusal, lineRefusal};
+ghost use Rattle.point.specs.Points.{pointRefusal};
 ghost use Rattle.point.specs.Points.{indexRefusal, offsetRefusal, pointOf, indexOf, indexAt, pointOn};
 
 // Column and row, 0 to 14 each.

@@ -13,7 +13,8 @@ ghost use mathlib.Core.Path.{_≡_};
 ghost use Prim.Native.Nat.{_≤_};
 ghost use Rattle.rules.specs.Point.{keyOf, keyDir, keyNo, keySize, stored};
 ghost use Rattle.point.specs.Answers.{keyAnswer, indexAnswer};
-ghost use Rattle.point.specs.Points.{lineRefusal, keyRefusal, indexOf};
+ghost use Rattle.point.specs.Points.{indexOf};
+ghost use Rattle.rules.specs.Refusals.{lineNoRefusal, keyRefusal};
 
 // The key of a stored line.
 pub(crate) fn key_of(d: u8, i: u8) -> u8
@@ -23,7 +24,8 @@ pub(crate) fn key_of(d: u8, i: u8) -> u8
     by_direction(d, i, 15 + i, 26 + i, 47 + i)
 }
 
-// The direction of a key's line. (The Rust's `line_from_key` gives it with the number.)
+// The direction of a key's line; every key over 71, which no line has, is counted on from the descending ones. (`line_from_key`, as in the
+// Rust, gives direction and number together, and refuses.)
 pub fn key_direction(key: u8) -> u8
     ensures { λ r. ⌜ r ≡ keyDir key ⌝ }
 {
@@ -36,7 +38,7 @@ pub fn key_direction(key: u8) -> u8
     if key < 51 { 2 } else { 3 }
 }
 
-// Its number.
+// The number of a key's line, counted on past key 71 in the same way: a number over 24 is no stored line's.
 pub fn key_no(key: u8) -> u8
     ensures { λ r. ⌜ r ≡ keyNo key ⌝ }
 {
@@ -49,7 +51,7 @@ pub fn key_no(key: u8) -> u8
     if key < 51 { key - 26 } else { key - 47 }
 }
 
-// How many cells it has.
+// How many cells the line with that direction and number has: of keys over 71, diagonals that are not stored (72 to 75), then none.
 pub fn key_size(key: u8) -> u8
     ensures { λ r. ⌜ r ≡ keySize key ⌝ }
 {
@@ -58,7 +60,7 @@ pub fn key_size(key: u8) -> u8
 
 // The key of a line: none for a diagonal too short to be stored. Refused 12 for a direction over 3, 10 for a line that does not exist.
 pub fn line_key(d: u8, i: u8) -> KeyAnswer
-    ensures { λ r. ⌜ r ≡ keyAnswer (lineRefusal d i) (stored d i) (keyOf d i) ⌝ }
+    ensures { λ r. ⌜ r ≡ keyAnswer (lineNoRefusal d i) (stored d i) (keyOf d i) ⌝ }
 {
     let refused = line_refusal(d, i);
     if refused != 0 {
@@ -94,7 +96,7 @@ pub fn key_refusal(key: u8) -> u8
 
 // 12 for the direction, then 10 for the number.
 pub(crate) fn line_refusal(d: u8, i: u8) -> u8
-    ensures { λ r. ⌜ r ≡ lineRefusal d i ⌝ }
+    ensures { λ r. ⌜ r ≡ lineNoRefusal d i ⌝ }
 {
     first(direction_refusal(d), unless(i < line_count(d), 10))
 }

@@ -1,5 +1,6 @@
 // Points, the lines through them and the keys of the stored lines: point.rs, and the addresses of grid.rs. A direction is a number, 0 to 3,
-// and a point a code, 0 to 224, but for the fronts, which take coordinates too and refuse what is neither.
+// and a point a code, 0 to 224. The fronts (`Point`, `Index`, `line_key`, `line_from_key`, `turn_point`) refuse every other number. The rest
+// are inner functions, for crates above that have tested their numbers: total, and each says what it gives for a number that is none.
 mod answer;
 mod index;
 mod key;

@@ -1,4 +1,5 @@
-// Section 3 by arithmetic: the line through a point, its size, and the point at a cell of a line.
+// Section 3 by arithmetic: the line through a point, its size, and the point at a cell of a line. A direction over 3 is taken for Descending
+// everywhere here. A code over 224 has the same arithmetic, x = code / 15 and y = code % 15, and is no point.
 use rules::Direction;
 ghost use mathlib.Core.Path.{_≡_};
 ghost use mathlib.Core.Bool.{cond};
@@ -10,7 +11,7 @@ ghost use Rattle.rules.specs.Point.{byDirection, stepOf, lineNo, cellNo, lineCo
 pub(crate) fn by_direction(d: u8, vertical: u8, horizontal: u8, ascending: u8, descending: u8) -> u8
     ensures { λ r. ⌜ r ≡ byDirection d vertical horizontal ascending descending ⌝ }
 {
-    match Direction::of(d) {
+    match Direction::or_descending(d) {
         Direction::Vertical => vertical,
         Direction::Horizontal => horizontal,
         Direction::Ascending => ascending,
@@ -90,11 +91,12 @@ pub(crate) fn is_stored(d: u8, i: u8) -> bool
     if i < 4 { false } else { i <= 24 }
 }
 
-// The code of the point at cell j of line i. Any numbers may be asked, so that it is wider than a code.
+// The code of the point at cell j of line i; of a cell that is not on that line, what the same sum gives, which is wider than a code and no
+// point of the line.
 pub fn point_at(d: u8, i: u8, j: u8) -> u16
     ensures { λ r. ⌜ r ≡ pointAt d i j ⌝ }
 {
-    match Direction::of(d) {
+    match Direction::or_descending(d) {
         Direction::Vertical => code_of(i as u16, j as u16),
         Direction::Horizontal => code_of(j as u16, i as u16),
         Direction::Ascending => ascending_at(i as u16, j as u16),

@@ -5,10 +5,9 @@ use rules::NumberAnswer;
 use rules::first;
 use rules::unless;
 ghost use mathlib.Core.Path.{_≡_};
-ghost use Rattle.rules.specs.Refusals.{first};
+ghost use Rattle.rules.specs.Refusals.{first, codeRefusal, viewRefusal};
 ghost use Rattle.rules.specs.Answers.{numberAnswer};
 ghost use Rattle.rules.specs.Views.{turn, undo};
-ghost use Rattle.point.specs.Points.{codeRefusal, viewRefusal};
 
 // 12 for a view over 7.
 pub fn view_refusal(view: u8) -> u8
@@ -17,9 +16,9 @@ pub fn view_refusal(view: u8) -> u8
     unless(view < 8, 12)
 }
 
-// The code of the point to which a view sends a point; a view over 7 is taken for 7. Any code may be asked, and that of 255
-// in view 5 is 269, so that it is wider than a code.
-pub fn turned(view: u8, code: u8) -> u16
+// The code of the point to which a view sends a point; a view over 7 is taken for 7. A code over 224 is no point, and what it is sent to is
+// none either: that of 255 in view 5 is 269, so that the answer is wider than a code.
+pub fn turned(code: u8, view: u8) -> u16
     ensures { λ r. ⌜ r ≡ turn view code ⌝ }
 {
     let x = (code / 15) as u16;
@@ -38,7 +37,7 @@ pub fn turned(view: u8, code: u8) -> u16
     }
 }
 
-// The view that takes a view back.
+// The view that takes a view back; a number over 7, which is no view, is given back itself.
 pub fn undone(view: u8) -> u8
     ensures { λ r. ⌜ r ≡ undo view ⌝ }
 {
@@ -57,5 +56,5 @@ pub fn turn_point(code: u8, view: u8) -> NumberAnswer
     if refused != 0 {
         return NumberAnswer::Refused(refused);
     }
-    NumberAnswer::Is(turned(view, code) as u8)
+    NumberAnswer::Is(turned(code, view) as u8)
 }

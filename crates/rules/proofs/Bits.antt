@@ -317,6 +317,15 @@ count-mono (suc w) f g h =
     digit-mono true false k = absurd (k tt)
     digit-mono false b k = omega arith
 
+pub count-le : (w : ℕ) (f : ℕ → Bool) → countOf w f ≤ w
+unfolding countOf
+count-le zero f = omega arith
+count-le (suc w) f = omega (arith, digit-le (f 0), count-le w (λ j. f (suc j)))
+  where
+    digit-le : (b : Bool) → digit b ≤ 1
+    digit-le true = omega arith
+    digit-le false = omega arith
+
 pub count-ones : (w n : ℕ) → n < 2 ^ w → ones n ≡ countOf w (bit n)
 unfolding countOf
 count-ones zero n h = ap ones (lt-one h) ∙ ones-ones 0

@@ -6,13 +6,13 @@ use Rattle.rules.specs.Line.{isEye, eyeOfSome}
 use Rattle.rules.specs.Point.{lineNo, cellNo, lineSize, pointAt}
 use Rattle.rules.specs.Grid.{empties, stoneAt, rowOn, eyeOn, rowsThrough}
 use Rattle.rules.specs.Forbidden.{someRow, onTwoLines, apart, moreThanOne, mayPlay, isReal, realThrees, isOverline, isDoubleFour}
-use Rattle.rules.specs.Forbidden.{isDoubleThree, plainWith, completesFive, strictWith, strictN, strictOf, plainOf}
+use Rattle.rules.specs.Forbidden.{isDoubleThree, plainWith, completesFive, strictWith, nestedN, nestedOf, strictOf, plainOf}
 use Rattle.rules.specs.Cases.{every, cases, stoneIsOn}
 
 pub table : T (every cases)
 unfolding cases anyBelow gather inside free count beside dead scores holds pairAt noStone openAt overAt rowAt among emptyAt isEye eyeOfSome
     lineNo cellNo lineSize pointAt empties stoneAt rowOn eyeOn rowsThrough someRow onTwoLines apart moreThanOne mayPlay isReal realThrees
-    isOverline isDoubleFour isDoubleThree plainWith completesFive strictWith strictN strictOf plainOf
+    isOverline isDoubleFour isDoubleThree plainWith completesFive strictWith nestedN nestedOf strictOf plainOf
 table = tt
 
 -- the board that section 9's fourth error gets wrong
@@ -20,5 +20,5 @@ pub stone-is-on : T stoneIsOn
 unfolding stoneIsOn anyBelow gather inside free count beside dead scores holds pairAt noStone openAt overAt rowAt among emptyAt isEye
     eyeOfSome
     lineNo cellNo lineSize pointAt empties stoneAt rowOn eyeOn rowsThrough someRow onTwoLines apart moreThanOne mayPlay isReal realThrees
-    isOverline isDoubleFour isDoubleThree plainWith completesFive strictWith strictN strictOf plainOf
+    isOverline isDoubleFour isDoubleThree plainWith completesFive strictWith nestedN nestedOf strictOf plainOf
 stone-is-on = tt

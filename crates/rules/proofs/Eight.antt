@@ -15,7 +15,7 @@ use Rattle.rules.specs.Point.{lineNo, cellNo, lineSize, pointAt}
 use Rattle.rules.specs.Grid.{Starts, stoneAt, rowOn, eyeOn, rowsThrough}
 use Rattle.rules.specs.Forbidden.{Ask, moreThanOne, mayPlay, isReal, realThrees, withBlack}
 use Rattle.rules.specs.Forbidden.{isOverline, isDoubleFour, isDoubleThree, plainWith}
-use Rattle.rules.specs.Forbidden.{completesFive, strictWith, strictN}
+use Rattle.rules.specs.Forbidden.{completesFive, strictWith, nestedN}
 use Rattle.rules.specs.Views.{turn, undo}
 use Rattle.rules.specs.declared.Player.{Player}
 use Rattle.rules.specs.declared.Player.the-variants.{Black}
@@ -238,14 +238,15 @@ module _ (v : ℕ) (A B : List ℕ) (p : ℕ) (hv : v < 8) (t : Turned v A B) (h
         }
 
 -- a question that does not see which view the board is in
-abbrev pub Blind : Ask → Type 0
+abbrev pub Blind : {A : Type 0} → Ask A → Type 0
 Blind ask = (v : ℕ) (A B : List ℕ) (p : ℕ) → v < 8 → Turned v A B → p < 225 → ask B (turn v p) ≡ ask A p
 
-abbrev pub Kept : (List ℕ → ℕ → Bool) → Type 0
+-- a test that passes in every view where it passes in one
+abbrev pub Kept : Ask Bool → Type 0
 Kept P = (v : ℕ) (A B : List ℕ) (p : ℕ) → v < 8 → Turned v A B → p < 225 → T (P A p) → T (P B (turn v p))
 
 -- what each view keeps, no view changes: go back by the undoing view
-pub kept-eq : (P : List ℕ → ℕ → Bool) → Kept P → (v : ℕ) (A B : List ℕ) (p : ℕ) → v < 8 → Turned v A B → p < 225 → P B (turn v p) ≡ P A p
+pub kept-eq : (P : Ask Bool) → Kept P → Blind P
 kept-eq P k v A B p hv t hp =
     both-ways (P B (turn v p)) (P A p)
     (λ u. subst (λ (q : ℕ). T (P A q)) (turn-undo v p hv hp) (k (undo v) B A (turn v p) (undo-lt v hv) (turned-back hv t)
@@ -274,11 +275,11 @@ unfolding isDoubleFour
 double-four-kept v A B p hv t hp u = more-carried (rowsThrough Black Sword A p) (rowsThrough Black Sword B (turn v p))
     (rows-carried Sword v A B p hv t hp) u
 
-may-kept : (ask : Ask) → Blind ask → Kept (mayPlay ask)
+may-kept : (ask : Ask Verdict) → Blind ask → Kept (mayPlay ask)
 unfolding mayPlay
 may-kept ask blind v A B p hv t hp u = subst⁻¹ (λ (x : Verdict). T (isNone x)) (blind v A B p hv t hp) u
 
-module _ (ask : Ask) (blind : Blind ask) (v : ℕ) (A B : List ℕ) (p : ℕ) (hv : v < 8) (t : Turned v A B) (hp : p < 225) where
+module _ (ask : Ask Verdict) (blind : Blind ask) (v : ℕ) (A B : List ℕ) (p : ℕ) (hv : v < 8) (t : Turned v A B) (hp : p < 225) where
   real-turn : (d j s : ℕ) → d < 4 → Moved (flips v d) (sizeAt d p) 4 j s → T (isReal ask A p d j)
       → T (isReal ask B (turn v p) (turnDir v d) s)
   unfolding isReal
@@ -312,7 +313,7 @@ module _ (ask : Ask) (blind : Blind ask) (v : ℕ) (A B : List ℕ) (p : ℕ) (h
       (through-turn v A B p d hv t hp hd Black Three j r m (and-left (rowsThrough Black Three A p d j) (isReal ask A p d j) u))
       (real-turn d j r hd m (and-right (rowsThrough Black Three A p d j) (isReal ask A p d j) u)))
 
-pub double-three-kept : (ask : Ask) → Blind ask → Kept (isDoubleThree ask)
+pub double-three-kept : (ask : Ask Verdict) → Blind ask → Kept (isDoubleThree ask)
 unfolding isDoubleThree
 double-three-kept ask blind v A B p hv t hp u =
     and-intro (moreThanOne (rowsThrough Black Two B (turn v p))) (moreThanOne (realThrees ask (withBlack B (turn v p)) (turn v p)))
@@ -322,7 +323,7 @@ double-three-kept ask blind v A B p hv t hp u =
     (real-carried ask blind v (withBlack A p) (withBlack B (turn v p)) p hv (turned-black p hv hp t) hp)
     (and-right (moreThanOne (rowsThrough Black Two A p)) (moreThanOne (realThrees ask (withBlack A p) p)) u))
 
-pub plain-blind : (ask : Ask) → Blind ask → Blind (plainWith ask)
+pub plain-blind : (ask : Ask Verdict) → Blind ask → Blind (plainWith ask)
 unfolding plainWith
 plain-blind ask blind v A B p hv t hp =
     rw (
@@ -332,13 +333,15 @@ plain-blind ask blind v A B p hv t hp =
           (double-three-kept ask blind) v A B p hv t hp,
     )
 
-pub strict-with-blind : (ask : Ask) → Blind ask → Blind (strictWith ask)
+pub strict-with-blind : (ask : Ask Verdict) → Blind ask → Blind (strictWith ask)
 unfolding strictWith
 strict-with-blind ask blind v A B p hv t hp =
     rw (t .same p hp, kept-eq completesFive five-kept v A B p hv t hp, plain-blind ask blind v A B p hv t hp)
 
--- THE THEOREM, at every depth
-pub strict-blind : (n : ℕ) → Blind (strictN n)
-unfolding strictN
-strict-blind zero v A B p hv t hp = refl
-strict-blind (suc n) v A B p hv t hp = strict-with-blind (strictN n) (strict-blind n) v A B p hv t hp
+-- a question that asks itself is blind at every depth where one step of it is
+pub nested-blind : {A : Type 0} (rest : A) (step : Ask A → Ask A) → ((ask : Ask A) → Blind ask → Blind (step ask))
+    → (n : ℕ) → Blind (nestedN rest step n)
+unfolding nestedN
+nested-blind rest step each zero v A B p hv t hp = refl
+nested-blind rest step each (suc n) v A B p hv t hp =
+    each (nestedN rest step n) (nested-blind rest step each n) v A B p hv t hp

@@ -15,6 +15,7 @@ use Rattle.rules.specs.Grid.{stoneAt, rowOn, eyeOn}
 use Rattle.rules.specs.Forbidden.{Ask, mayPlay, isReal}
 use Rattle.rules.specs.declared.Player.the-variants.{Black}
 use Rattle.rules.specs.declared.RowKind.the-variants.{Three}
+use Rattle.rules.specs.declared.Verdict.{Verdict}
 use Rattle.rules.proofs.Logic.{and-left, and-right, and-intro, implies, implied, both-ways, any-elim, any-intro, all-elim, all2}
 use Rattle.rules.proofs.Logic.{true-T}
 use Rattle.rules.proofs.Tables.{at5}
@@ -129,7 +130,7 @@ module _ (black : Bool) (size : ℕ) (own other : Stones) (j : ℕ) (t : T (rowA
 
 -- ---- the question is asked at the eye, wherever it is found
 
-pub real-at : (ask : Ask) (cells : List ℕ) (p d j e : ℕ) → T (rowOn Black Three cells d (lineNo d p) j)
+pub real-at : (ask : Ask Verdict) (cells : List ℕ) (p d j e : ℕ) → T (rowOn Black Three cells d (lineNo d p) j)
     → T (eyeOn Black Three cells d (lineNo d p) j e) → e < 16
     → isReal ask cells p d j ≡ mayPlay ask cells (pointAt d (lineNo d p) e)
 unfolding isReal rowOn eyeOn

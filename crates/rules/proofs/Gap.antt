@@ -1,6 +1,6 @@
 -- The first cell of a Three's four that has no black stone is its eye. Assumes nothing.
 use mathlib.Core.Path.{_≡_, refl, subst, _∙_}
-use mathlib.Core.Bool.{Bool, true, false, not, cond}
+use mathlib.Core.Bool.{Bool, true, false, cond}
 use mathlib.Core.List.{List}
 use Prim.Native.Nat.{ℕ, _+_, _<_}
 use native.Mathlib.Nat.{add-zero}
@@ -13,6 +13,7 @@ use Rattle.rules.specs.Grid.{stoneAt, rowOn, eyeOn, rowsThrough}
 use Rattle.rules.specs.Forbidden.{Ask, mayPlay, isReal, gapFrom, eyeOf}
 use Rattle.rules.specs.declared.Player.the-variants.{Black, White}
 use Rattle.rules.specs.declared.RowKind.the-variants.{Three}
+use Rattle.rules.specs.declared.Verdict.{Verdict}
 use Rattle.rules.proofs.Address.{size-le, line-here, point-lt}
 use Rattle.rules.proofs.Rows.{through-row, eye-inside}
 use Rattle.rules.proofs.Eye.{firstGap, eye-some, eye-first, real-at}
@@ -53,7 +54,7 @@ module _ (cells : List ℕ) (p d j : ℕ) (hp : p < 225) (hd : d < 4) (t : T (ro
   eye-lt = point-lt d (lineNo d p) cell hd (line-here d p hd hp) gap-inside
 
   -- it is real where Black may play at its eye
-  pub real-eye : (ask : Ask) → isReal ask cells p d j ≡ mayPlay ask cells (eyeOf cells p d j)
+  pub real-eye : (ask : Ask Verdict) → isReal ask cells p d j ≡ mayPlay ask cells (eyeOf cells p d j)
   unfolding eyeOf
   real-eye ask =
       real-at ask cells p d j cell (through-row Black Three cells p d j t) eye-on

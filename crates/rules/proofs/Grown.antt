@@ -15,7 +15,7 @@ use Rattle.rules.specs.Tools.{allBelow}
 use Rattle.rules.specs.Bit.{digit}
 use Rattle.rules.specs.Line.{Stones, inside, free, count, beside, dead, scores, pairAt, noStone, openAt, rowAt, among}
 use Rattle.rules.specs.Point.{lineNo, cellNo, lineSize}
-use Rattle.rules.specs.Grid.{stoneAt, rowOn, rowsThrough}
+use Rattle.rules.specs.Grid.{stoneAt, rowOn, startMasks, rowsThrough}
 use Rattle.rules.specs.Forbidden.{withBlack}
 use Rattle.rules.specs.declared.Player.{Player}
 use Rattle.rules.specs.declared.Player.the-variants.{Black, White}
@@ -24,6 +24,7 @@ use Rattle.rules.proofs.Logic.{true-T, and-left, and-right, and-same, b
 use Rattle.rules.proofs.Address.{line-here}
 use Rattle.rules.proofs.Rows.{stone-here}
 use Rattle.rules.proofs.Changes.{stone-on}
+use Rattle.rules.proofs.Starts.{masks-same}
 
 -- ---- cell c is one of a window's five, once
 
@@ -131,3 +132,10 @@ unfolding rowsThrough
 two-three cells p d j long hp hd none =
     and-same (among 4 j (cellNo d p)) (rowOn Black Two cells d (lineNo d p) j) (rowOn Black Three (withBlack cells p) d (lineNo d p) j)
     (row-through cells p d long hp hd none j)
+
+-- so the start masks of the Twos are those of the Threes that the stone makes of them
+pub twos-grown : (cells : List ℕ) (p : ℕ) → length cells ≡ 225 → p < 225 → getD cells p 0 ≡ 0
+    → startMasks (rowsThrough Black Two cells p) ≡ startMasks (rowsThrough Black Three (withBlack cells p) p)
+twos-grown cells p long hp none =
+    masks-same (rowsThrough Black Two cells p) (rowsThrough Black Three (withBlack cells p) p)
+    (λ d j hd. two-three cells p d j long hp hd none)

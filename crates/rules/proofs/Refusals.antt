@@ -6,6 +6,10 @@ use native.Mathlib.Omega.{arith}
 use lib.Dec.{T, eqb}
 use borrow.Author.Tests.{eqb-true, eq-eqb, ne-eqb}
 use Rattle.rules.specs.Refusals.{unless, first}
+use Rattle.rules.specs.Answers.{testAnswer, verdictAnswer}
+use Rattle.rules.specs.declared.Verdict.{Verdict}
+use Rattle.rules.specs.declared.answer.TestAnswer.the-variants as test
+use Rattle.rules.specs.declared.answer.VerdictAnswer.the-variants as verdict
 use Rattle.rules.proofs.Logic.{no-true}
 
 -- none of two is given where neither is
@@ -48,3 +52,22 @@ module _ {B A : Type 0} (is : B → A) (no : ℕ → A) {refused told : ℕ} (v 
 
   pub refusal-given : (refused ≡ 0 → ⊥) → no refused ≡ cond (eqb told 0) (is v) (no told)
   refusal-given n = rw (ne-eqb told 0 (λ z. n (e ∙ z))) (ap no e)
+
+-- a verdict and a test, given back so
+module _ {refused told : ℕ} (v : Verdict) (e : refused ≡ told) where
+  pub ruled : {r : Verdict} → refused ≡ 0 → r ≡ v → verdict.Is r ≡ verdictAnswer told v
+  unfolding verdictAnswer
+  ruled z er = value-given verdict.Is verdict.Refused v e z er
+
+  pub not-ruled : (refused ≡ 0 → ⊥) → verdict.Refused refused ≡ verdictAnswer told v
+  unfolding verdictAnswer
+  not-ruled n = refusal-given verdict.Is verdict.Refused v e n
+
+module _ {refused told : ℕ} (v : Bool) (e : refused ≡ told) where
+  pub tested : {r : Bool} → refused ≡ 0 → r ≡ v → test.Is r ≡ testAnswer told v
+  unfolding testAnswer
+  tested z er = value-given test.Is test.Refused v e z er
+
+  pub not-tested : (refused ≡ 0 → ⊥) → test.Refused refused ≡ testAnswer told v
+  unfolding testAnswer
+  not-tested n = refusal-given test.Is test.Refused v e n

@@ -1,4 +1,5 @@
--- Four start masks and the starts that they name. A row starts at most ten cells on, so that no start is lost. Assumes nothing.
+-- Four start masks and the starts that they name; section 5's tests by them. A row starts at most ten cells on, so that no start is lost.
+-- Assumes nothing.
 use mathlib.Core.Path.{_≡_, refl, ap, _∙_}
 use mathlib.Core.Bool.{Bool, true, false, _&&_}
 use mathlib.Core.List.{List}
@@ -11,9 +12,11 @@ use Rattle.rules.specs.Tools.{tab}
 use Rattle.rules.specs.Bit.{bit, maskOf}
 use Rattle.rules.specs.Point.{lineNo}
 use Rattle.rules.specs.Grid.{Starts, startMasks, startsOf, rowsThrough}
-use Rattle.rules.specs.Forbidden.{someRow, moreThanOne}
+use Rattle.rules.specs.Forbidden.{someRow, moreThanOne, isOverline, isDoubleFour, moreTwos, completesFive}
 use Rattle.rules.specs.declared.Player.{Player}
+use Rattle.rules.specs.declared.Player.the-variants.{Black}
 use Rattle.rules.specs.declared.RowKind.{RowKind}
+use Rattle.rules.specs.declared.RowKind.the-variants.{Two, Sword, Four, Overlining}
 use Rattle.rules.proofs.Logic.{true-T, both-ways}
 use Rattle.rules.proofs.Lists.{tab-cong}
 use Rattle.rules.proofs.Bits.{bit-mask, mask-cong}
@@ -63,3 +66,31 @@ module _ (s : Starts) (low : (d j : ℕ) → d < 4 → T (s d j) → j < 15) whe
 -- as rows through a point are
 pub start-low : (r : Player) (k : RowKind) (cells : List ℕ) (p d j : ℕ) → d < 4 → T (rowsThrough r k cells p d j) → j < 15
 start-low r k cells p d j hd t = omega (arith, through-inside r k cells p d j t, size-le d (lineNo d p))
+
+-- ---- the tests of section 5, by the start masks of Black's rows through p
+
+module _ (cells : List ℕ) (p : ℕ) {m : List ℕ} where
+  some-starts : (kind : RowKind) → m ≡ startMasks (rowsThrough Black kind cells p) → {b : Bool} → b ≡ someRow (startsOf m)
+      → b ≡ someRow (rowsThrough Black kind cells p)
+  some-starts kind e eb = some-masks (rowsThrough Black kind cells p) (start-low Black kind cells p) e eb
+
+  more-starts : (kind : RowKind) → m ≡ startMasks (rowsThrough Black kind cells p) → {b : Bool} → b ≡ moreThanOne (startsOf m)
+      → b ≡ moreThanOne (rowsThrough Black kind cells p)
+  more-starts kind e eb = more-masks (rowsThrough Black kind cells p) (start-low Black kind cells p) e eb
+
+  pub five-is : m ≡ startMasks (rowsThrough Black Four cells p) → {b : Bool} → b ≡ someRow (startsOf m) → b ≡ completesFive cells p
+  unfolding completesFive
+  five-is e eb = some-starts Four e eb
+
+  pub overline-is : m ≡ startMasks (rowsThrough Black Overlining cells p) → {b : Bool} → b ≡ someRow (startsOf m)
+      → b ≡ isOverline cells p
+  unfolding isOverline
+  overline-is e eb = some-starts Overlining e eb
+
+  pub double-four-is : m ≡ startMasks (rowsThrough Black Sword cells p) → {b : Bool} → b ≡ moreThanOne (startsOf m)
+      → b ≡ isDoubleFour cells p
+  unfolding isDoubleFour
+  double-four-is e eb = more-starts Sword e eb
+
+  pub twos-are : m ≡ startMasks (rowsThrough Black Two cells p) → {b : Bool} → b ≡ moreThanOne (startsOf m) → b ≡ moreTwos cells p
+  twos-are e eb = more-starts Two e eb

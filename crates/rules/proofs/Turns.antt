@@ -24,7 +24,11 @@ undo-undo zero = refl
 undo-undo (suc zero) = refl
 undo-undo (suc (suc zero)) = refl
 undo-undo (suc (suc (suc zero))) = refl
-undo-undo (suc (suc (suc (suc v)))) = refl
+undo-undo (suc (suc (suc (suc zero)))) = refl
+undo-undo (suc (suc (suc (suc (suc zero))))) = refl
+undo-undo (suc (suc (suc (suc (suc (suc zero)))))) = refl
+undo-undo (suc (suc (suc (suc (suc (suc (suc zero))))))) = refl
+undo-undo (suc (suc (suc (suc (suc (suc (suc (suc v)))))))) = refl
 
 pub turn-lt : (v p : ℕ) → v < 8 → p < 225 → turn v p < 225
 unfolding allBelow turn

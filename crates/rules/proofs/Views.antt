@@ -1,25 +1,25 @@
 -- Demand 3: in all eight views the verdicts are the same at the turned point, and the forbidden list is the turned list. Assumes nothing.
 use mathlib.Core.Path.{_≡_, refl, sym, ap, _∙_}
-use mathlib.Core.Logic.{inr}
 use mathlib.Core.Bool.{cond}
 use mathlib.Core.List.{List}
 use Prim.Native.Nat.{ℕ, zero, suc, _+_, _≤_, _<_}
 use native.Mathlib.Omega.{arith}
-use native.Mathlib.Nat.{zero-add}
 use native.Mathlib.Decide.{ℕ-discrete, decLe}
 use lib.Dec.{leb}
 use lib.ListN.{length, getD}
 use lib.Seq.{ext-getD}
 use borrow.Author.Tests.{le-leb, lt-leb}
 use Rattle.rules.specs.Numbers.{verdictNo}
-use Rattle.rules.specs.Forbidden.{entry, strictOf, plainOf, forbiddenList}
+use Rattle.rules.specs.Forbidden.{Ask, strictWith, nestedOf, strictOf, plainOf, forbiddenList}
+use Rattle.rules.specs.declared.Verdict.the-variants.{None}
 use Rattle.rules.specs.Views.{turn, undo, turnCells, insert, turnList}
-use Rattle.rules.proofs.Lists.{length-tab, getD-tab, gather-cong, pairs, pairs-skip, pairs-take, pairs-same, pairs-none}
-use Rattle.rules.proofs.Lists.{gather-pairs, insert-pairs, InOrder, listed, pairs-order, pairs-listed, pairs-outside}
+use Rattle.rules.proofs.Lists.{length-tab, getD-tab, pairs, pairs-skip, pairs-take, pairs-same, pairs-none}
+use Rattle.rules.proofs.Lists.{insert-pairs, InOrder, listed}
+use Rattle.rules.proofs.Listed.{kinds, list-pairs, list-order, list-names}
 use Rattle.rules.proofs.Turns.{turn-lt, turn-undo, turn-home, undo-lt}
-use Rattle.rules.proofs.Eight.{Turned, Blind, strict-blind, plain-blind}
+use Rattle.rules.proofs.Eight.{Turned, Blind, nested-blind, strict-with-blind, plain-blind}
 use Rattle.rules.proofs.Changes.{empties-le}
-use Rattle.rules.proofs.Fuel.{strictOf-deep}
+use Rattle.rules.proofs.Fuel.{Nests, nested-deep, strict-nests}
 
 -- ---- the turned board
 
@@ -49,11 +49,17 @@ turned-one {v} {A} {B} hv t =
 
 -- ---- THE VERDICTS, strict and plain
 
+-- a question that asks itself does not see the view where one step of it does not
+pub nested-view : {A : Type 0} (rest : A) (step : Ask A → Ask A) → Nests rest step → ((ask : Ask A) → Blind ask → Blind (step ask))
+    → Blind (nestedOf rest step)
+nested-view rest step nests each v A B p hv t hp =
+    nested-deep rest step nests 225 B (turn v p) (t .lenB) (turn-lt v p hv hp) (omega (arith, empties-le B, t .lenB))
+    ∙ nested-blind rest step each 225 v A B p hv t hp
+    ∙ sym (nested-deep rest step nests 225 A p (t .lenA) hp (omega (arith, empties-le A, t .lenA)))
+
 strictOf-blind : Blind strictOf
-strictOf-blind v A B p hv t hp =
-    strictOf-deep 225 B (turn v p) (t .lenB) (turn-lt v p hv hp) (omega (arith, empties-le B, t .lenB))
-    ∙ strict-blind 225 v A B p hv t hp
-    ∙ sym (strictOf-deep 225 A p (t .lenA) hp (omega (arith, empties-le A, t .lenA)))
+unfolding strictOf
+strictOf-blind = nested-view None strictWith strict-nests strict-with-blind
 
 pub strict-view : (v : ℕ) (cells : List ℕ) (p : ℕ) → v < 8 → length cells ≡ 225 → p < 225
     → strictOf (turnCells v cells) (turn v p) ≡ strictOf cells p
@@ -63,28 +69,6 @@ pub plain-view : (v : ℕ) (cells : List ℕ) (p : ℕ) → v < 8 → length cel
     → plainOf (turnCells v cells) (turn v p) ≡ plainOf cells p
 unfolding plainOf
 plain-view v cells p hv l hp = plain-blind strictOf strictOf-blind v cells (turnCells v cells) p hv (turned-cells v cells hv l) hp
-
--- ---- the list: each forbidden point once with its kind, in code order
-
--- the kinds of a board's points
-abbrev kinds : List ℕ → ℕ → ℕ
-kinds cells p = verdictNo (strictOf cells p)
-
-list-pairs : (cells : List ℕ) → forbiddenList cells ≡ pairs (kinds cells) 0 225
-unfolding forbiddenList
-list-pairs cells =
-    gather-cong 225 (λ p. entry (strictOf cells p) p) (λ p. entry (strictOf cells (0 + p)) (0 + p))
-    (λ p h. ap (λ (x : ℕ). entry (strictOf cells x) x) (sym (zero-add p)))
-    ∙ gather-pairs (strictOf cells) 0 225
-
-pub list-order : (cells : List ℕ) → InOrder 0 (forbiddenList cells)
-list-order cells = rw (list-pairs cells) (pairs-order (kinds cells) 0 0 225 (omega arith))
-
-pub list-names : (cells : List ℕ) (p : ℕ) → p < 225 → listed (forbiddenList cells) p ≡ verdictNo (strictOf cells p)
-list-names cells p hp = rw (list-pairs cells) (pairs-listed (kinds cells) 0 225 p (omega arith) (omega arith))
-
-pub list-names-only : (cells : List ℕ) (p : ℕ) → 225 ≤ p → listed (forbiddenList cells) p ≡ 0
-list-names-only cells p hp = rw (list-pairs cells) (pairs-outside (kinds cells) 0 225 p (inr (omega arith)))
 
 -- ---- the turned list
 

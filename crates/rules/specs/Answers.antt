@@ -3,7 +3,10 @@ use mathlib.Core.Bool.{Bool, cond}
 use Prim.Native.Nat.{ℕ}
 use lib.Dec.{eqb}
 use lib.IntN.{ℤ}
+use Rattle.rules.specs.declared.Player.{Player}
 use Rattle.rules.specs.declared.Player.the-variants.{Black, White}
+use Rattle.rules.specs.declared.Direction.{Direction}
+use Rattle.rules.specs.declared.RowKind.{RowKind}
 use Rattle.rules.specs.declared.answer.MaskAnswer.{MaskAnswer}
 use Rattle.rules.specs.declared.answer.MaskAnswer.the-variants as mask
 use Rattle.rules.specs.declared.answer.NumberAnswer.{NumberAnswer}
@@ -14,6 +17,15 @@ use Rattle.rules.specs.declared.answer.TestAnswer.{TestAnswer}
 use Rattle.rules.specs.declared.answer.TestAnswer.the-variants as test
 use Rattle.rules.specs.declared.answer.ScoreAnswer.{ScoreAnswer}
 use Rattle.rules.specs.declared.answer.ScoreAnswer.the-variants as score
+use Rattle.rules.specs.declared.Verdict.{Verdict}
+use Rattle.rules.specs.declared.answer.VerdictAnswer.{VerdictAnswer}
+use Rattle.rules.specs.declared.answer.VerdictAnswer.the-variants as verdict
+use Rattle.rules.specs.declared.answer.PlayerAnswer.{PlayerAnswer}
+use Rattle.rules.specs.declared.answer.PlayerAnswer.the-variants as player
+use Rattle.rules.specs.declared.answer.DirectionAnswer.{DirectionAnswer}
+use Rattle.rules.specs.declared.answer.DirectionAnswer.the-variants as direction
+use Rattle.rules.specs.declared.answer.KindAnswer.{KindAnswer}
+use Rattle.rules.specs.declared.answer.KindAnswer.the-variants as kind
 use Rattle.rules.specs.declared.answer.StoneAnswer.{StoneAnswer}
 use Rattle.rules.specs.declared.answer.StoneAnswer.the-variants as stone
 
@@ -31,6 +43,18 @@ testAnswer refused b = cond (eqb refused 0) (test.Is b) (test.Refused refused)
 
 unfoldable pub scoreAnswer : ℕ → ℤ → ScoreAnswer
 scoreAnswer refused z = cond (eqb refused 0) (score.Is z) (score.Refused refused)
+
+unfoldable pub verdictAnswer : ℕ → Verdict → VerdictAnswer
+verdictAnswer refused v = cond (eqb refused 0) (verdict.Is v) (verdict.Refused refused)
+
+unfoldable pub playerAnswer : ℕ → Player → PlayerAnswer
+playerAnswer refused r = cond (eqb refused 0) (player.Is r) (player.Refused refused)
+
+unfoldable pub directionAnswer : ℕ → Direction → DirectionAnswer
+directionAnswer refused d = cond (eqb refused 0) (direction.Is d) (direction.Refused refused)
+
+unfoldable pub kindAnswer : ℕ → RowKind → KindAnswer
+kindAnswer refused k = cond (eqb refused 0) (kind.Is k) (kind.Refused refused)
 
 unfoldable pub stoneAnswer : ℕ → Bool → Bool → StoneAnswer
 stoneAnswer refused black white =

@@ -78,14 +78,14 @@ abbrev pub putAll : Player → List ℕ → List ℕ → List ℕ
 putAll r [] cells = cells
 putAll r (p ∷ ps) cells = putAll r ps (put r cells p)
 
-abbrev pub boardOf : List ℕ → List ℕ → List ℕ
-boardOf blacks whites = putAll White whites (putAll Black blacks (replicate 225 0))
+abbrev pub caseBoard : List ℕ → List ℕ → List ℕ
+caseBoard blacks whites = putAll White whites (putAll Black blacks (replicate 225 0))
 
 abbrev pub strictIs : List ℕ → List ℕ → ℕ → Verdict → Bool
-strictIs blacks whites p v = eqb (verdictNo (strictOf (boardOf blacks whites) p)) (verdictNo v)
+strictIs blacks whites p v = eqb (verdictNo (strictOf (caseBoard blacks whites) p)) (verdictNo v)
 
 abbrev pub plainIs : List ℕ → List ℕ → ℕ → Verdict → Bool
-plainIs blacks whites p v = eqb (verdictNo (plainOf (boardOf blacks whites) p)) (verdictNo v)
+plainIs blacks whites p v = eqb (verdictNo (plainOf (caseBoard blacks whites) p)) (verdictNo v)
 
 -- ---- the table
 

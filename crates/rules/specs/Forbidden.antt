@@ -10,6 +10,7 @@ use Rattle.rules.specs.Line.{Stones}
 use Rattle.rules.specs.Point.{lineNo, pointAt}
 use Rattle.rules.specs.Grid.{isEmpty, put, empties, stoneAt, Starts, rowsThrough, eyeOn}
 use Rattle.rules.specs.declared.Player.the-variants.{Black}
+use Rattle.rules.specs.declared.RowKind.{RowKind}
 use Rattle.rules.specs.declared.RowKind.the-variants.{Two, Three, Sword, Four, Overlining}
 use Rattle.rules.specs.declared.Verdict.{Verdict}
 use Rattle.rules.specs.declared.Verdict.the-variants.{None, DoubleThree, DoubleFour, Overline}
@@ -39,20 +40,21 @@ moreThanOne s = onTwoLines s || anyBelow 4 (λ d. apart 16 (s d))
 
 -- ---- the three kinds; `ask` is the strict verdict that a nested question is answered by
 
-abbrev pub Ask : Type 0
-Ask = List ℕ → ℕ → Verdict
+-- a question about a point of a board, and the type of its answers
+abbrev pub Ask : Type 0 → Type 0
+Ask A = List ℕ → ℕ → A
 
 -- "on the board with Black at p"
 abbrev pub withBlack : List ℕ → ℕ → List ℕ
 withBlack cells p = put Black cells p
 
 -- May Black play there? "the strict verdict .. is none": so an eye that completes a five "counts as playable".
-unfoldable pub mayPlay : Ask → List ℕ → ℕ → Bool
+unfoldable pub mayPlay : Ask Verdict → List ℕ → ℕ → Bool
 mayPlay ask cells p = isNone (ask cells p)
 
 -- "A Three is real when the strict verdict at its one eye, on that board, is none." The Three stands at start j of the line through p;
 -- it has one eye (proofs/Eye.antt).
-unfoldable pub isReal : Ask → List ℕ → ℕ → Starts
+unfoldable pub isReal : Ask Verdict → List ℕ → ℕ → Starts
 isReal ask cells p d j =
     anyBelow 16 (λ e. eyeOn Black Three cells d (lineNo d p) j e && mayPlay ask cells (pointAt d (lineNo d p) e))
 
@@ -65,8 +67,12 @@ unfoldable pub eyeOf : List ℕ → ℕ → ℕ → ℕ → ℕ
 eyeOf cells p d j = pointAt d (lineNo d p) (gapFrom (stoneAt Black cells d (lineNo d p)) j)
 
 -- the real Threes through p
-unfoldable pub realThrees : Ask → List ℕ → ℕ → Starts
+unfoldable pub realThrees : Ask Verdict → List ℕ → ℕ → Starts
 realThrees ask cells p d j = rowsThrough Black Three cells p d j && isReal ask cells p d j
+
+-- Black's rows of each kind through p
+abbrev pub blackRows : List ℕ → ℕ → RowKind → Starts
+blackRows cells p kind = rowsThrough Black kind cells p
 
 -- "Overline: some line has an Overlining through p."
 unfoldable pub isOverline : List ℕ → ℕ → Bool
@@ -77,7 +83,7 @@ unfoldable pub isDoubleFour : List ℕ → ℕ → Bool
 isDoubleFour cells p = moreThanOne (rowsThrough Black Sword cells p)
 
 -- "more than one real Three through p", of the board that has the stone
-abbrev pub realDouble : Ask → List ℕ → ℕ → Bool
+abbrev pub realDouble : Ask Verdict → List ℕ → ℕ → Bool
 realDouble ask cells p = moreThanOne (realThrees ask cells p)
 
 -- "more than one Two through p"
@@ -85,7 +91,7 @@ abbrev pub moreTwos : List ℕ → ℕ → Bool
 moreTwos cells p = moreThanOne (rowsThrough Black Two cells p)
 
 -- "DoubleThree: more than one Two through p, and on the board with Black at p more than one real Three through p."
-unfoldable pub isDoubleThree : Ask → List ℕ → ℕ → Bool
+unfoldable pub isDoubleThree : Ask Verdict → List ℕ → ℕ → Bool
 isDoubleThree ask cells p = moreTwos cells p && realDouble ask (withBlack cells p) p
 
 -- Some kind may apply at p, by the tests that need no nested question. Where none of them passes the verdict is none (proofs/Verdicts.antt,
@@ -100,7 +106,7 @@ abbrev pub firstKind : Bool → Bool → Bool → Verdict
 firstKind o f t = cond o Overline (cond f DoubleFour (cond t DoubleThree None))
 
 -- "The plain verdict at an empty p, first that applies"
-unfoldable pub plainWith : Ask → Ask
+unfoldable pub plainWith : Ask Verdict → Ask Verdict
 plainWith ask cells p = firstKind (isOverline cells p) (isDoubleFour cells p) (isDoubleThree ask cells p)
 
 -- "a black Four goes through p (p completes a five)"
@@ -109,20 +115,34 @@ completesFive cells p = someRow (rowsThrough Black Four cells p)
 
 -- "The strict verdict is none at an occupied point or where a black Four goes through p (p completes a five); otherwise it is the plain
 -- one."
-unfoldable pub strictWith : Ask → Ask
+unfoldable pub strictWith : Ask Verdict → Ask Verdict
 strictWith ask cells p = cond (isEmpty (getD cells p 0)) (cond (completesFive cells p) None (plainWith ask cells p)) None
 
--- "The strict question asks the plain one, which asks the strict one; each turn has one empty point fewer." At most n turns:
-unfoldable pub strictN : ℕ → Ask
-strictN zero cells p = None
-strictN (suc n) cells p = strictWith (strictN n) cells p
+-- A question that asks itself, whatever its answers are: `step` answers it by the answers to the next questions. At most n steps, one
+-- inside the other; past the last the answer is `rest`.
+unfoldable pub nestedN : {A : Type 0} → A → (Ask A → Ask A) → ℕ → Ask A
+nestedN rest step zero cells p = rest
+nestedN rest step (suc n) cells p = step (nestedN rest step n) cells p
 
--- as many turns as there are empty points are enough (proofs/Fuel.antt: more change nothing)
-unfoldable pub strictOf : Ask
-strictOf cells p = strictN (empties cells) cells p
+-- Where "each turn has one empty point fewer", as many steps as there are empty points are enough (proofs/Fuel.antt: more change nothing).
+unfoldable pub nestedOf : {A : Type 0} → A → (Ask A → Ask A) → Ask A
+nestedOf rest step cells p = nestedN rest step (empties cells) cells p
 
-unfoldable pub plainOf : Ask
+-- "The strict question asks the plain one, which asks the strict one; each turn has one empty point fewer."
+unfoldable pub strictOf : Ask Verdict
+strictOf cells p = nestedOf None strictWith cells p
+
+-- .. with at most n turns
+unfoldable pub strictN : ℕ → Ask Verdict
+strictN n cells p = nestedN None strictWith n cells p
+
+unfoldable pub plainOf : Ask Verdict
 plainOf cells p = plainWith strictOf cells p
+
+-- "DoubleThree: more than one Two through p, and on the board with Black at p more than one real Three through p", asked alone; no at an
+-- occupied point
+unfoldable pub doubleThreeAt : List ℕ → ℕ → Bool
+doubleThreeAt cells p = isEmpty (getD cells p 0) && isDoubleThree strictOf cells p
 
 -- ---- the list
 
@@ -131,6 +151,6 @@ abbrev pub entry : Verdict → ℕ → List ℕ
 entry v p = only (not (isNone v)) (verdictNo v ∷ p ∷ [])
 
 -- "The forbidden list holds each empty point whose strict verdict is a kind, by ascending code". (An occupied point's strict verdict is
--- none.) Each such point once, ascending: proofs/Views.antt, list-order and list-names.
+-- none.) Each such point once, ascending: proofs/Listed.antt, list-order and list-names.
 unfoldable pub forbiddenList : List ℕ → List ℕ
 forbiddenList cells = gather 225 (λ p. entry (strictOf cells p) p)

@@ -2,7 +2,7 @@
 -- (section 4). The quoted sentences are document 01's.
 use mathlib.Core.Bool.{Bool, not, _&&_, _||_, cond}
 use mathlib.Core.List.{List, [], _∷_}
-use Prim.Native.Nat.{ℕ, suc, _+_, _-_}
+use Prim.Native.Nat.{ℕ, zero, suc, _+_, _-_, _/_, _%_}
 use lib.Dec.{leb, ltb, eqb}
 use lib.ListN.{getD, set}
 use Rattle.rules.specs.Numbers.{colourNo, isBlack, opponentOf}
@@ -85,6 +85,19 @@ startMasks s = tab 4 (λ d. maskOf 16 (s d))
 unfoldable pub startsOf : List ℕ → Starts
 startsOf masks d j = ltb j 15 && bit (getD masks d 0) j
 
+-- Starts by their numbers, line by line: start j of the line in direction d is number 16d + j.
+unfoldable pub numbered : Starts → ℕ → Bool
+numbered s k = s (k / 16) (k % 16)
+
+-- the first number of n from k on that passes, else 64
+unfoldable pub firstOf : (ℕ → Bool) → ℕ → ℕ → ℕ
+firstOf s zero k = 64
+firstOf s (suc n) k = cond (s k) k (firstOf s n (suc k))
+
+-- the first number from `from` on that passes, else 64
+unfoldable pub nextFrom : (ℕ → Bool) → ℕ → ℕ
+nextFrom s from = firstOf s (64 - from) from
+
 -- the player's rows of the kind through p, by direction and start. (A diagonal too short to be stored has no window, so no row.)
 unfoldable pub rowsThrough : Player → RowKind → List ℕ → ℕ → Starts
 rowsThrough r k cells p d j = through k (cellNo d p) j && rowOn r k cells d (lineNo d p) j
@@ -136,14 +149,14 @@ onLine size c n s = leb n (c + s) && ltb (c + s - n) size
 
 -- "`neighbors` takes distance d, 0 to 14, and names the cells from −d to +d in each direction in that order, short diagonals too, the
 -- point itself each time; the empty-only form drops stones." Here the distance is n and s counts the cells from −n on.
-abbrev pub nearItem : List ℕ → ℕ → ℕ → Bool → ℕ → ℕ → List ℕ
-nearItem cells p n onlyEmpty d s =
+abbrev pub neighbourItem : List ℕ → ℕ → ℕ → Bool → ℕ → ℕ → List ℕ
+neighbourItem cells p n onlyEmpty d s =
     only (onLine (lineSize d (lineNo d p)) (cellNo d p) n s
     && (not onlyEmpty || isEmpty (getD cells (pointAt d (lineNo d p) (cellNo d p + s - n)) 0)))
     (pointAt d (lineNo d p) (cellNo d p + s - n) ∷ [])
 
-abbrev pub nearIn : List ℕ → ℕ → ℕ → Bool → ℕ → List ℕ
-nearIn cells p n onlyEmpty d = gather (n + n + 1) (nearItem cells p n onlyEmpty d)
+abbrev pub neighboursIn : List ℕ → ℕ → ℕ → Bool → ℕ → List ℕ
+neighboursIn cells p n onlyEmpty d = gather (n + n + 1) (neighbourItem cells p n onlyEmpty d)
 
 unfoldable pub neighbours : List ℕ → ℕ → ℕ → Bool → List ℕ
-neighbours cells p n onlyEmpty = gather 4 (nearIn cells p n onlyEmpty)
+neighbours cells p n onlyEmpty = gather 4 (neighboursIn cells p n onlyEmpty)

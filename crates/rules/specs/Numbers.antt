@@ -45,7 +45,7 @@ directionNo Descending = 3
 abbrev pub directionOf : ℕ → Direction
 directionOf n = cond (eqb n 0) Vertical (cond (eqb n 1) Horizontal (cond (eqb n 2) Ascending Descending))
 
--- "a row kind .. (order of row.rs)"
+-- "a row kind .. (order of `row.rs`)"
 abbrev pub kindNo : RowKind → ℕ
 kindNo Two = 0
 kindNo Three = 1

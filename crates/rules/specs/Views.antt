@@ -1,34 +1,36 @@
 -- Section 6: the eight views. The quoted sentences are document 01's.
 use mathlib.Core.Bool.{cond}
 use mathlib.Core.List.{List, [], _∷_}
-use Prim.Native.Nat.{ℕ, zero, suc, _-_}
+use Prim.Native.Nat.{ℕ, _-_}
 use lib.Dec.{ltb}
 use lib.ListN.{getD}
 use Rattle.rules.specs.Tools.{tab}
 use Rattle.rules.specs.Point.{xOf, yOf, codeOf}
 
 -- "0: (x, y). 1: (y, 14−x). 2: (14−x, 14−y). 3: (14−y, x). 4: (14−x, y). 5: (x, 14−y). 6: (y, x). 7: (14−y, 14−x)."
-abbrev pub viewed : ℕ → ℕ → ℕ → ℕ
-viewed zero x y = codeOf x y
-viewed (suc zero) x y = codeOf y (14 - x)
-viewed (suc (suc zero)) x y = codeOf (14 - x) (14 - y)
-viewed (suc (suc (suc zero))) x y = codeOf (14 - y) x
-viewed (suc (suc (suc (suc zero)))) x y = codeOf (14 - x) y
-viewed (suc (suc (suc (suc (suc zero))))) x y = codeOf x (14 - y)
-viewed (suc (suc (suc (suc (suc (suc zero)))))) x y = codeOf y x
-viewed (suc (suc (suc (suc (suc (suc (suc v))))))) x y = codeOf (14 - y) (14 - x)
+abbrev pub views : ℕ → ℕ → List (ℕ × ℕ)
+views x y =
+    (x, y)
+    ∷ (y, 14 - x)
+    ∷ (14 - x, 14 - y)
+    ∷ (14 - y, x)
+    ∷ (14 - x, y)
+    ∷ (x, 14 - y)
+    ∷ (y, x)
+    ∷ (14 - y, 14 - x)
+    ∷ []
+
+-- row v of the table, and row 7 for every other number; refusal 12 comes first wherever a number is handed in
+abbrev pub viewed : ℕ → ℕ → ℕ → ℕ × ℕ
+viewed v x y = getD (views x y) v (14 - y, 14 - x)
 
 -- "Each view sends the point (x, y) to the point named here."
 unfoldable pub turn : ℕ → ℕ → ℕ
-turn v p = viewed v (xOf p) (yOf p)
+turn v p = let q = viewed v (xOf p) (yOf p) in codeOf (q .0) (q .1)
 
--- the view that sends it back: 1 and 3 undo one another, every other view undoes itself
+-- the view that sends it back, view by view: 1 and 3 undo one another, every other number itself
 unfoldable pub undo : ℕ → ℕ
-undo zero = 0
-undo (suc zero) = 3
-undo (suc (suc zero)) = 2
-undo (suc (suc (suc zero))) = 1
-undo (suc (suc (suc (suc v)))) = suc (suc (suc (suc v)))
+undo v = getD (0 ∷ 3 ∷ 2 ∷ 1 ∷ 4 ∷ 5 ∷ 6 ∷ 7 ∷ []) v v
 
 -- "The turned board holds at each turned point what the board holds at the point, and nothing else": at q what the board holds at the
 -- point that the view sends to q

@@ -1,5 +1,8 @@
 // What a question with refusals answers where its value is plain: the value, or the number of the refusal alone.
+use super::Direction;
 use super::Player;
+use super::RowKind;
+use super::Verdict;
 ghost use mathlib.Core.Path.{_≡_};
 ghost use Rattle.rules.specs.Answers.{maskAnswer, numberAnswer, countAnswer, testAnswer, scoreAnswer, stoneAnswer};
 
@@ -29,6 +32,28 @@ pub enum TestAnswer {
 // A window's score: its own stones, or -1.
 pub enum ScoreAnswer {
     Is(i8),
+    Refused(u8),
+}
+
+// What the referee says of a point.
+pub enum VerdictAnswer {
+    Is(Verdict),
+    Refused(u8),
+}
+
+// The colour, the direction or the row kind of a number.
+pub enum PlayerAnswer {
+    Is(Player),
+    Refused(u8),
+}
+
+pub enum DirectionAnswer {
+    Is(Direction),
+    Refused(u8),
+}
+
+pub enum KindAnswer {
+    Is(RowKind),
     Refused(u8),
 }
 

@@ -2,15 +2,20 @@
 mod answer;
 
 pub use answer::CountAnswer;
+pub use answer::DirectionAnswer;
+pub use answer::KindAnswer;
 pub use answer::MaskAnswer;
 pub use answer::NumberAnswer;
+pub use answer::PlayerAnswer;
 pub use answer::ScoreAnswer;
 pub use answer::StoneAnswer;
 pub use answer::TestAnswer;
+pub use answer::VerdictAnswer;
 ghost use mathlib.Core.Path.{_≡_};
 ghost use Rattle.rules.specs.Numbers.{colourNo, playerOf, isColour, isBlack, isWhite, opponentOf};
 ghost use Rattle.rules.specs.Numbers.{directionNo, directionOf, kindNo, kindOf, verdictNo, isNone};
-ghost use Rattle.rules.specs.Refusals.{unless, first, colourRefusal, kindRefusal};
+ghost use Rattle.rules.specs.Refusals.{unless, first, colourRefusal, directionRefusal, kindRefusal};
+ghost use Rattle.rules.specs.Answers.{playerAnswer, directionAnswer, kindAnswer};
 ghost use Rattle.rules.specs.Line.{rowStones, spansTwo, eyeCells};
 
 // The two colours of stones. As a number: 1 Black, 2 White.
@@ -57,8 +62,19 @@ impl Player {
         }
     }
 
-    // The colour of a number; one that is no colour's is taken for White, so a caller that must refuse it asks `is_colour` first.
-    pub fn of(n: u8) -> Player
+    // The colour of a number, or 12.
+    pub fn of(n: u8) -> PlayerAnswer
+        ensures { λ r. ⌜ r ≡ playerAnswer (colourRefusal n) (playerOf n) ⌝ }
+    {
+        let refused = colour_refusal(n);
+        if refused != 0 {
+            return PlayerAnswer::Refused(refused);
+        }
+        PlayerAnswer::Is(Player::or_white(n))
+    }
+
+    // Black for 1, White for every other number: for callers that have refused what is no colour's.
+    pub fn or_white(n: u8) -> Player
         ensures { λ r. ⌜ r ≡ playerOf n ⌝ }
     {
         if n == 1 { Player::Black } else { Player::White }
@@ -114,8 +130,19 @@ impl Direction {
         }
     }
 
-    // The direction of a number; one over 3 is taken for Descending.
-    pub fn of(n: u8) -> Direction
+    // The direction of a number, or 12.
+    pub fn of(n: u8) -> DirectionAnswer
+        ensures { λ r. ⌜ r ≡ directionAnswer (directionRefusal n) (directionOf n) ⌝ }
+    {
+        let refused = unless(n < 4, 12);
+        if refused != 0 {
+            return DirectionAnswer::Refused(refused);
+        }
+        DirectionAnswer::Is(Direction::or_descending(n))
+    }
+
+    // The direction of a number up to 3, Descending for every other: for callers that have refused those.
+    pub fn or_descending(n: u8) -> Direction
         ensures { λ r. ⌜ r ≡ directionOf n ⌝ }
     {
         match n {
@@ -143,8 +170,19 @@ impl RowKind {
         }
     }
 
-    // The kind of a number; one over 7 is taken for Overlined.
-    pub fn of(n: u8) -> RowKind
+    // The kind of a number, or 12.
+    pub fn of(n: u8) -> KindAnswer
+        ensures { λ r. ⌜ r ≡ kindAnswer (kindRefusal n) (kindOf n) ⌝ }
+    {
+        let refused = kind_refusal(n);
+        if refused != 0 {
+            return KindAnswer::Refused(refused);
+        }
+        KindAnswer::Is(RowKind::or_overlined(n))
+    }
+
+    // The kind of a number up to 7, Overlined for every other: for callers that have refused those.
+    pub fn or_overlined(n: u8) -> RowKind
         ensures { λ r. ⌜ r ≡ kindOf n ⌝ }
     {
         match n {

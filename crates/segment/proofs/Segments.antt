@@ -20,7 +20,7 @@ use Rattle.rules.proofs.Logic.{true-T, all-elim}
 use Rattle.rules.proofs.Tables.{beq-eq, table5}
 use Rattle.rules.proofs.Windows.{count-le, scores-last}
 use Rattle.segment.specs.declared.segment.Segment.{Segment}
-use Rattle.segment.specs.Segments.{own, other, isDead}
+use Rattle.segment.specs.Segments.{segmentOwn, segmentOther, isDead}
 use Rattle.segment.specs.Rows.{unfilled, segmentScores, segmentHolds}
 
 -- an equation of every byte, by a computed test
@@ -85,15 +85,15 @@ pub segment-dead : (colour n : ℕ) (s : Segment) → isDead s colour ≡ true �
 unfolding scores inside
 segment-dead colour n s e = rw e
 
-pub segment-alive : (colour n : ℕ) (s : Segment) → isDead s colour ≡ false → eqb (count (own s colour) 1) n ≡ segmentScores colour n s
+pub segment-alive : (colour n : ℕ) (s : Segment) → isDead s colour ≡ false → eqb (count (segmentOwn s colour) 1) n ≡ segmentScores colour n s
 unfolding scores inside
 segment-alive colour n s e = rw e
 
-pub segment-free : (colour n : ℕ) (s : Segment) → free (other s colour) 1 ≡ true → eqb (count (own s colour) 1) n ≡ segmentHolds colour n s
+pub segment-free : (colour n : ℕ) (s : Segment) → free (segmentOther s colour) 1 ≡ true → eqb (count (segmentOwn s colour) 1) n ≡ segmentHolds colour n s
 unfolding holds inside
 segment-free colour n s e = rw e
 
-pub segment-blocked : (colour n : ℕ) (s : Segment) → free (other s colour) 1 ≡ false → false ≡ segmentHolds colour n s
+pub segment-blocked : (colour n : ℕ) (s : Segment) → free (segmentOther s colour) 1 ≡ false → false ≡ segmentHolds colour n s
 unfolding holds inside
 segment-blocked colour n s e = rw e
 
@@ -105,11 +105,11 @@ last-clear f =
     (f 1) (f 2) (f 3) (f 4) (f 5)
 
 pub segment-open : (colour n : ℕ) (s : Segment) → segmentScores colour n s ≡ true
-    → ltb (stonesMask (own s colour) 1) 16 ≡ noStone (own s colour) (other s colour) 5
+    → ltb (stonesMask (segmentOwn s colour) 1) 16 ≡ noStone (segmentOwn s colour) (segmentOther s colour) 5
 unfolding noStone
 segment-open colour n s e =
-    let none : other s colour 5 ≡ false = scores-last (eqb colour 1) 7 (own s colour) (other s colour) n 1 (true-T e) in
-    last-clear (own s colour) ∙ sym (ap (λ (b : Bool). not (own s colour 5) && not b) none ∙ and-true (not (own s colour 5)))
+    let none : segmentOther s colour 5 ≡ false = scores-last (eqb colour 1) 7 (segmentOwn s colour) (segmentOther s colour) n 1 (true-T e) in
+    last-clear (segmentOwn s colour) ∙ sym (ap (λ (b : Bool). not (segmentOwn s colour 5) && not b) none ∙ and-true (not (segmentOwn s colour 5)))
 
 -- ---- a score is a small signed number, which a byte holds
 pub small-signed : (own : Stones) (j n : ℕ) → n ≡ count own j → SFits w8 (pos n)

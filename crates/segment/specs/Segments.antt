@@ -2,7 +2,7 @@
 use mathlib.Core.Bool.{Bool, cond}
 use Prim.Native.Nat.{ℕ}
 use lib.Dec.{eqb}
-use Rattle.rules.specs.Refusals.{unless, first, colourRefusal}
+use Rattle.rules.specs.Refusals.{unsound, unless, first, colourRefusal}
 use Rattle.rules.specs.Bit.{bit}
 use Rattle.rules.specs.Line.{Stones, dead, soundSegment, segmentAt}
 use Rattle.segment.specs.declared.segment.Segment.{Segment}
@@ -12,19 +12,19 @@ abbrev pub mine : ℕ → ℕ → ℕ → ℕ
 mine colour blacks whites = cond (eqb colour 1) blacks whites
 
 -- which of the seven cells hold a stone of the colour, and of the other
-abbrev pub own : Segment → ℕ → Stones
-own s colour = bit (mine colour (s .blacks) (s .whites))
+abbrev pub segmentOwn : Segment → ℕ → Stones
+segmentOwn s colour = bit (mine colour (s .blacks) (s .whites))
 
-abbrev pub other : Segment → ℕ → Stones
-other s colour = bit (mine colour (s .whites) (s .blacks))
+abbrev pub segmentOther : Segment → ℕ → Stones
+segmentOther s colour = bit (mine colour (s .whites) (s .blacks))
 
 abbrev pub isDead : Segment → ℕ → Bool
-isDead s colour = dead (eqb colour 1) (own s colour) (other s colour) segmentAt
+isDead s colour = dead (eqb colour 1) (segmentOwn s colour) (segmentOther s colour) segmentAt
 
 -- "9 .. unsound .. segment"
 unfoldable pub segmentRefusal : Segment → ℕ
-segmentRefusal s = unless (soundSegment (bit (s .blacks)) (bit (s .whites))) 9
+segmentRefusal s = unless (soundSegment (bit (s .blacks)) (bit (s .whites))) unsound
 
 -- the refusal of a question about a colour
-unfoldable pub refusalFor : Segment → ℕ → ℕ
-refusalFor s colour = first (segmentRefusal s) (colourRefusal colour)
+unfoldable pub segmentRefusalFor : Segment → ℕ → ℕ
+segmentRefusalFor s colour = first (segmentRefusal s) (colourRefusal colour)

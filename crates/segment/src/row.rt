@@ -16,7 +16,7 @@ ghost use Rattle.rules.specs.Numbers.{kindOf};
 ghost use Rattle.rules.specs.Line.{segmentAt};
 ghost use Rattle.rules.specs.Answers.{testAnswer};
 ghost use Rattle.segment.specs.Answers.{rowAnswer};
-ghost use Rattle.segment.specs.Rows.{unfilled, rowOf, rowRefusal, segmentScores, segmentHolds, before, openOf, overOf, matchOf};
+ghost use Rattle.segment.specs.Rows.{unfilled, rowOf, rowRefusal, segmentScores, segmentHolds, passesBefore, openOf, overOf, matchOf};
 ghost use Rattle.segment.specs.Rows.{beforeRefusal, matchRefusal};
 
 // Where the row's window starts, the colour's stones on its five cells and its eyes, bit k for cell k.
@@ -34,12 +34,12 @@ pub enum Before {
 
 impl Row {
     // The row of a colour and a kind at a segment, whose window starts at `start`.
-    pub fn new(start: u8, colour: u8, kind: u8, segment: Segment) -> RowAnswer
+    pub fn new(segment: Segment, start: u8, colour: u8, kind: u8) -> RowAnswer
         ensures { λ r. ⌜ r ≡ rowAnswer (rowRefusal colour kind segment) (rowOf start colour kind segment) ⌝ }
     {
         let refused = row_refusal(colour, kind, segment);
         let stones = stones_of(segment.my(colour));
-        let eyes = unfilled_of(segment.my(colour), RowKind::of(kind));
+        let eyes = unfilled_of(segment.my(colour), RowKind::or_overlined(kind));
         RowAnswer::of(
             refused,
             Row {
@@ -68,11 +68,14 @@ fn unfilled_of(my: u8, kind: RowKind) -> u8
 }
 
 // Whether the colour has a row of the kind at segment `cur`; `prev` is the segment that starts one cell before it on the same line.
-pub fn matches(colour: u8, kind: u8, prev: Before, cur: Segment) -> TestAnswer
+pub fn matches(prev: Before, cur: Segment, colour: u8, kind: u8) -> TestAnswer
     ensures { λ r. ⌜ r ≡ testAnswer (matchRefusal colour kind prev cur) (matchOf colour (kindOf kind) prev cur) ⌝ }
 {
     let refused = first(before_refusal(prev), row_refusal(colour, kind, cur));
-    TestAnswer::of(refused, is_match(colour, RowKind::of(kind), prev, cur))
+    TestAnswer::of(
+        refused,
+        is_match(colour, RowKind::or_overlined(kind), prev, cur),
+    )
 }
 
 fn before_refusal(prev: Before) -> u8
@@ -119,7 +122,7 @@ fn holds(colour: u8, n: u8, s: Segment) -> bool
 }
 
 fn scores_before(colour: u8, n: u8, prev: Before) -> bool
-    ensures { λ r. ⌜ r ≡ before (segmentScores colour n) prev ⌝ }
+    ensures { λ r. ⌜ r ≡ passesBefore (segmentScores colour n) prev ⌝ }
 {
     match prev {
         Before::None => false,
@@ -128,7 +131,7 @@ fn scores_before(colour: u8, n: u8, prev: Before) -> bool
 }
 
 fn holds_before(colour: u8, n: u8, prev: Before) -> bool
-    ensures { λ r. ⌜ r ≡ before (segmentHolds colour n) prev ⌝ }
+    ensures { λ r. ⌜ r ≡ passesBefore (segmentHolds colour n) prev ⌝ }
 {
     match prev {
         Before::None => false,

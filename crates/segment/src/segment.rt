@@ -13,7 +13,7 @@ ghost use lib.Dec.{eqb};
 ghost use Rattle.rules.specs.Bit.{bit};
 ghost use Rattle.rules.specs.Line.{free, count, beside, dead, score, stonesMask, wanted, segmentAt};
 ghost use Rattle.rules.specs.Answers.{numberAnswer, scoreAnswer, testAnswer};
-ghost use Rattle.segment.specs.Segments.{mine, own, other, isDead, segmentRefusal, refusalFor};
+ghost use Rattle.segment.specs.Segments.{mine, segmentOwn, segmentOther, isDead, segmentRefusal, segmentRefusalFor};
 
 // The five cells of a segment, bits 1 to 5.
 const CELLS: u8 = 0b0111110;
@@ -35,7 +35,7 @@ impl Segment {
 
     // Whether the colour can still make a five here: no stone of the other colour, and for Black no overline.
     pub fn is_alive(self, colour: u8) -> TestAnswer
-        ensures { λ r. ⌜ r ≡ testAnswer (refusalFor self colour) (not (isDead self colour)) ⌝ }
+        ensures { λ r. ⌜ r ≡ testAnswer (segmentRefusalFor self colour) (not (isDead self colour)) ⌝ }
     {
         let dead = is_dead(self.my(colour), self.op(colour), colour == 1);
         TestAnswer::of(self.refusal_for(colour), !dead)
@@ -43,7 +43,7 @@ impl Segment {
 
     // How many of the five cells the colour has, or -1 in a dead segment.
     pub fn score(self, colour: u8) -> ScoreAnswer
-        ensures { λ r. ⌜ r ≡ scoreAnswer (refusalFor self colour) (score (eqb colour 1) (own self colour) (other self colour) segmentAt) ⌝ }
+        ensures { λ r. ⌜ r ≡ scoreAnswer (segmentRefusalFor self colour) (score (eqb colour 1) (segmentOwn self colour) (segmentOther self colour) segmentAt) ⌝ }
     {
         let score = score_of(self.my(colour), self.op(colour), colour == 1);
         ScoreAnswer::of(self.refusal_for(colour), score)
@@ -51,29 +51,29 @@ impl Segment {
 
     // How many of the five cells the colour has, dead or alive.
     pub fn count(self, colour: u8) -> NumberAnswer
-        ensures { λ r. ⌜ r ≡ numberAnswer (refusalFor self colour) (count (own self colour) segmentAt) ⌝ }
+        ensures { λ r. ⌜ r ≡ numberAnswer (segmentRefusalFor self colour) (count (segmentOwn self colour) segmentAt) ⌝ }
     {
         NumberAnswer::of(self.refusal_for(colour), count_of(self.my(colour)))
     }
 
     // Whether the five cells have no stone of the other colour.
     pub fn is_free(self, colour: u8) -> TestAnswer
-        ensures { λ r. ⌜ r ≡ testAnswer (refusalFor self colour) (free (other self colour) segmentAt) ⌝ }
+        ensures { λ r. ⌜ r ≡ testAnswer (segmentRefusalFor self colour) (free (segmentOther self colour) segmentAt) ⌝ }
     {
         TestAnswer::of(self.refusal_for(colour), is_clear(self.op(colour)))
     }
 
     // The colour's stones on the five cells, bit k for cell k.
     pub fn stone_bits(self, colour: u8) -> NumberAnswer
-        ensures { λ r. ⌜ r ≡ numberAnswer (refusalFor self colour) (stonesMask (own self colour) segmentAt) ⌝ }
+        ensures { λ r. ⌜ r ≡ numberAnswer (segmentRefusalFor self colour) (stonesMask (segmentOwn self colour) segmentAt) ⌝ }
     {
         NumberAnswer::of(self.refusal_for(colour), stones_of(self.my(colour)))
     }
 
     // The cells where a five still wants a stone, none in a dead segment.
     pub fn eye_bits(self, colour: u8) -> NumberAnswer
-        ensures { λ r. ⌜ r ≡ numberAnswer (refusalFor self colour)
-            (wanted (eqb colour 1) (own self colour) (other self colour) segmentAt) ⌝ }
+        ensures { λ r. ⌜ r ≡ numberAnswer (segmentRefusalFor self colour)
+            (wanted (eqb colour 1) (segmentOwn self colour) (segmentOther self colour) segmentAt) ⌝ }
     {
         let eyes = eyes_of(self.my(colour), self.op(colour), colour == 1);
         NumberAnswer::of(self.refusal_for(colour), eyes)
@@ -109,7 +109,7 @@ impl Segment {
 
     // The refusal of a question about a colour.
     pub(crate) fn refusal_for(self, colour: u8) -> u8
-        ensures { λ r. ⌜ r ≡ refusalFor self colour ⌝ }
+        ensures { λ r. ⌜ r ≡ segmentRefusalFor self colour ⌝ }
     {
         first(self.refusal(), colour_refusal(colour))
     }

@@ -22,7 +22,7 @@ use Rattle.rules.proofs.Rows.{rowOn-inside}
 use Rattle.rules.proofs.More.{someRow-same, more-same}
 use Rattle.rules.proofs.Tables.{table2}
 use Rattle.lent.specs.Lists.{zeros}
-use Rattle.sweep.specs.Marks.{rowOf, marks, askedAt, isMarked, everyPoint, hasValue, Says, alongLine, rowFrom, AllRows}
+use Rattle.sweep.specs.Marks.{rowMask, marks, askedAt, isMarked, everyPoint, hasValue, Says, alongLine, rowFrom, AllRows}
 use Rattle.sweep.specs.Marks.{startsThrough, marksIn, allThrough}
 use Rattle.sweep.proofs.Marks.{marked-at, marks-cong, marks-none, marks-row, marks-fit, row-and, row-cong}
 use Rattle.sweep.proofs.Marks.{says-mask, says-or, says-not}
@@ -105,7 +105,7 @@ module _ (cells : List ℕ) {b w : List ℕ} (eb : b ≡ marks (hasValue cells 1
     -- THE LAW: a row of the points to ask about
     module _ (size : length cells ≡ 225) {all : List ℕ} (el : all ≡ marks everyPoint) (i : ℕ) (hi : i < 26) {o f t : ℕ} where
       pub asked-row : o < 2 ^ 16 → f < 2 ^ 16 → t < 2 ^ 16 → Says o i overlines → Says f i doubleFours → Says t i doubleTwos
-          → bitAnd (bitAnd (getD all i 0) (65535 - bitOr (getD b i 0) (getD w i 0))) (bitOr (bitOr o f) t) ≡ rowOf (askedAt cells) i
+          → bitAnd (bitAnd (getD all i 0) (65535 - bitOr (getD b i 0) (getD w i 0))) (bitOr (bitOr o f) t) ≡ rowMask (askedAt cells) i
       unfolding everyPoint askedAt
       asked-row ho hf ht so sf st =
           row-and _ _ i (or-lt 16 _ _ (or-lt 16 _ _ ho hf) ht)

@@ -23,8 +23,8 @@ use Rattle.rules.proofs.Bits.{bit-and, bit-or, bit-not, bit-ones, bit-mask, bit
 use Rattle.rules.proofs.Lists.{length-tab, getD-tab, is-tab, tab-cong}
 use Rattle.lent.specs.Lists.{zeros}
 use Rattle.lent.proofs.Laws.{length-zeros, zeros-at}
-use Rattle.grid.proofs.Filled.{filled, filled-none, filled-skip, filled-more}
-use Rattle.sweep.specs.Marks.{onBoard, rowOf, marks, isMarked, Marked, everyPoint, codesBelow, Says}
+use Rattle.sweep.specs.Marks.{onBoard, rowMask, marks, isMarked, Marked, everyPoint, codesBelow, Says}
+use Rattle.cells.proofs.Filled.{filled, filled-none, filled-skip, filled-more}
 
 -- ---- the points of the board
 
@@ -68,18 +68,18 @@ off-column i x h = not-false (not-intro (onBoard i x) (λ t. omega (arith, on-el
 -- ---- what marks say
 
 -- bit x of mask i of the marks, at every x
-pub row-bit : (f : ℕ → Bool) (i x : ℕ) → bit (rowOf f i) x ≡ (onBoard i x && f (codeOf x (i - 5)))
-unfolding rowOf
+pub row-bit : (f : ℕ → Bool) (i x : ℕ) → bit (rowMask f i) x ≡ (onBoard i x && f (codeOf x (i - 5)))
+unfolding rowMask
 row-bit f i x =
     ap (λ (g : ℕ → Bool). g x)
     (bits-of 16 (λ x. onBoard i x && f (codeOf x (i - 5))) (λ j h. sym (and-off (onBoard i j) _ (off-column i j (omega arith)))))
 
-pub marks-row : {m : List ℕ} (f : ℕ → Bool) → m ≡ marks f → (i : ℕ) → i < 26 → getD m i 0 ≡ rowOf f i
+pub marks-row : {m : List ℕ} (f : ℕ → Bool) → m ≡ marks f → (i : ℕ) → i < 26 → getD m i 0 ≡ rowMask f i
 unfolding marks
-marks-row f e i h = ap (λ (l : List ℕ). getD l i 0) e ∙ getD-tab 26 (rowOf f) i h
+marks-row f e i h = ap (λ (l : List ℕ). getD l i 0) e ∙ getD-tab 26 (rowMask f) i h
 
 pub marks-fit : {m : List ℕ} (f : ℕ → Bool) → m ≡ marks f → (i : ℕ) → i < 26 → getD m i 0 < 2 ^ 16
-unfolding rowOf
+unfolding rowMask
 marks-fit f e i h = subst (λ (n : ℕ). n < 2 ^ 16) (sym (marks-row f e i h)) (mask-lt 16 _)
 
 pub marks-bit : (f : ℕ → Bool) (i x : ℕ) → i < 26 → bit (getD (marks f) i 0) x ≡ (onBoard i x && f (codeOf x (i - 5)))
@@ -106,13 +106,13 @@ column-none f p h e =
     here i = bit (getD (marks f) i 0) (xOf p)
 
 -- marks look at the points of the board only
-pub row-cong : (f g : ℕ → Bool) (i : ℕ) → ((p : ℕ) → p < 225 → f p ≡ g p) → rowOf f i ≡ rowOf g i
-unfolding rowOf
+pub row-cong : (f g : ℕ → Bool) (i : ℕ) → ((p : ℕ) → p < 225 → f p ≡ g p) → rowMask f i ≡ rowMask g i
+unfolding rowMask
 row-cong f g i e = mask-cong 16 _ _ (λ x h. and-same (onBoard i x) _ _ (λ t. e (codeOf x (i - 5)) (on-code i x t)))
 
 pub marks-cong : (f g : ℕ → Bool) → ((p : ℕ) → p < 225 → f p ≡ g p) → marks f ≡ marks g
 unfolding marks
-marks-cong f g e = tab-cong 26 (rowOf f) (rowOf g) (λ i h. row-cong f g i e)
+marks-cong f g e = tab-cong 26 (rowMask f) (rowMask g) (λ i h. row-cong f g i e)
 
 -- they have no mark off the board
 pub marks-marked : (f : ℕ → Bool) → Marked (marks f)
@@ -153,12 +153,12 @@ says-mask m i =
     }
 
 -- a mask of the marks, with what another says of its points
-pub row-and : {m n : ℕ} (f g : ℕ → Bool) (i : ℕ) → n < 2 ^ 16 → m ≡ rowOf f i → Says n i g → bitAnd m n ≡ rowOf (λ p. f p && g p) i
-unfolding rowOf
+pub row-and : {m n : ℕ} (f g : ℕ → Bool) (i : ℕ) → n < 2 ^ 16 → m ≡ rowMask f i → Says n i g → bitAnd m n ≡ rowMask (λ p. f p && g p) i
+unfolding rowMask
 row-and {m} {n} f g i h e s =
     ap (λ (a : ℕ). bitAnd a n) e
-    ∙ mask-ext 16 (bitAnd (rowOf f i) n) _ (and-lt 16 (rowOf f i) n (mask-lt 16 _) h)
-    (λ x k. bit-and (rowOf f i) n x ∙ ap (λ (a : Bool). a && bit n x) (row-bit f i x)
+    ∙ mask-ext 16 (bitAnd (rowMask f i) n) _ (and-lt 16 (rowMask f i) n (mask-lt 16 _) h)
+    (λ x k. bit-and (rowMask f i) n x ∙ ap (λ (a : Bool). a && bit n x) (row-bit f i x)
     ∙ both (onBoard i x) (f (codeOf x (i - 5))) (s .at x))
   where
     both : (b u : Bool) {v w : Bool} → (T b → w ≡ v) → ((b && u) && w) ≡ (b && (u && v))
@@ -167,34 +167,34 @@ row-and {m} {n} f g i h e s =
 
 -- ---- marks written mask by mask, from the board's first row on
 
-row-none : (f : ℕ → Bool) (i : ℕ) → ((x : ℕ) → onBoard i x ≡ false) → rowOf f i ≡ 0
-unfolding rowOf
+row-none : (f : ℕ → Bool) (i : ℕ) → ((x : ℕ) → onBoard i x ≡ false) → rowMask f i ≡ 0
+unfolding rowMask
 row-none f i e = mask-none 16 _ (λ x h. sym (and-off (onBoard i x) _ (e x)))
 
-pub rows-start : (f : ℕ → Bool) → zeros 26 ≡ filled 26 (rowOf f) 5
+pub rows-start : (f : ℕ → Bool) → zeros 26 ≡ filled 26 (rowMask f) 5
 rows-start f =
-    filled-none 26 (rowOf f) ∙ skip 0 (omega arith) ∙ skip 1 (omega arith) ∙ skip 2 (omega arith) ∙ skip 3 (omega arith)
+    filled-none 26 (rowMask f) ∙ skip 0 (omega arith) ∙ skip 1 (omega arith) ∙ skip 2 (omega arith) ∙ skip 3 (omega arith)
     ∙ skip 4 (omega arith)
   where
-    skip : (i : ℕ) → i < 5 → filled 26 (rowOf f) i ≡ filled 26 (rowOf f) (i + 1)
-    skip i h = filled-skip 26 (rowOf f) i (omega arith) (row-none f i (λ x. off-low i x h))
+    skip : (i : ℕ) → i < 5 → filled 26 (rowMask f) i ≡ filled 26 (rowMask f) (i + 1)
+    skip i h = filled-skip 26 (rowMask f) i (omega arith) (row-none f i (λ x. off-low i x h))
 
-pub rows-more : {m : ℕ} {l : List ℕ} (f : ℕ → Bool) (i : ℕ) → i < 26 → l ≡ filled 26 (rowOf f) i → m ≡ rowOf f i
-    → set l i m ≡ filled 26 (rowOf f) (i + 1)
-rows-more f i h e r = ap₂ (λ (a : List ℕ) (b : ℕ). set a i b) e r ∙ filled-more 26 (rowOf f) i h
+pub rows-more : {m : ℕ} {l : List ℕ} (f : ℕ → Bool) (i : ℕ) → i < 26 → l ≡ filled 26 (rowMask f) i → m ≡ rowMask f i
+    → set l i m ≡ filled 26 (rowMask f) (i + 1)
+rows-more f i h e r = ap₂ (λ (a : List ℕ) (b : ℕ). set a i b) e r ∙ filled-more 26 (rowMask f) i h
 
-pub rows-end : {l : List ℕ} (f : ℕ → Bool) (i : ℕ) → 20 ≤ i → i ≤ 21 → l ≡ filled 26 (rowOf f) i → l ≡ marks f
+pub rows-end : {l : List ℕ} (f : ℕ → Bool) (i : ℕ) → 20 ≤ i → i ≤ 21 → l ≡ filled 26 (rowMask f) i → l ≡ marks f
 unfolding marks filled
 rows-end f i g h e =
-    e ∙ tab-cong 26 _ (rowOf f) (λ c k. last c (ltb c i) refl)
+    e ∙ tab-cong 26 _ (rowMask f) (λ c k. last c (ltb c i) refl)
   where
-    last : (c : ℕ) (b : Bool) → ltb c i ≡ b → cond b (rowOf f c) 0 ≡ rowOf f c
+    last : (c : ℕ) (b : Bool) → ltb c i ≡ b → cond b (rowMask f c) 0 ≡ rowMask f c
     last c true e = refl
     last c false e = sym (row-none f c (λ x. off-high c x (omega (arith, ltb-false c i e))))
 
 -- a whole row of the board
-pub full-row : (i : ℕ) → 5 ≤ i → i < 20 → 32767 ≡ rowOf everyPoint i
-unfolding everyPoint onBoard rowOf
+pub full-row : (i : ℕ) → 5 ≤ i → i < 20 → 32767 ≡ rowMask everyPoint i
+unfolding everyPoint onBoard rowMask
 full-row i l h =
     mask-ext 16 32767 _ (lit< tt)
     (λ x k. bit-ones 15 x ∙ sym (rw (le-leb 5 i l, lt-ltb i 20 h) (and-true (ltb x 15))))
@@ -253,19 +253,19 @@ module _ (x y : ℕ) (hx : x < 15) (hy : y < 15) where
     -- THE LAW: the mark of the next code is put in
     pub marks-more : {l : List ℕ} {m : ℕ} → l ≡ marks (codesBelow (codeOf x y) f) → m ≡ maskOf 16 (λ j. f (codeOf x y) && eqb j x)
         → set l (y + 5) (bitOr (getD l (y + 5) 0) m) ≡ marks (codesBelow (codeOf x y + 1) f)
-    unfolding marks rowOf
+    unfolding marks rowMask
     marks-more {l} {m} e g =
-        is-tab (set l (y + 5) (bitOr (getD l (y + 5) 0) m)) 26 (rowOf (codesBelow (codeOf x y + 1) f))
+        is-tab (set l (y + 5) (bitOr (getD l (y + 5) 0) m)) 26 (rowMask (codesBelow (codeOf x y + 1) f))
         (length-set l (y + 5) (bitOr (getD l (y + 5) 0) m) ∙ len) (λ i h. at i h (ℕ-discrete i (y + 5)))
       where
         len : length l ≡ 26
-        len = ap length e ∙ length-tab 26 (rowOf (codesBelow (codeOf x y) f))
+        len = ap length e ∙ length-tab 26 (rowMask (codesBelow (codeOf x y) f))
 
-        was : (i : ℕ) → i < 26 → getD l i 0 ≡ rowOf (codesBelow (codeOf x y) f) i
+        was : (i : ℕ) → i < 26 → getD l i 0 ≡ rowMask (codesBelow (codeOf x y) f) i
         was i h = marks-row (codesBelow (codeOf x y) f) e i h
 
         at : (i : ℕ) → i < 26 → Dec (i ≡ y + 5)
-            → getD (set l (y + 5) (bitOr (getD l (y + 5) 0) m)) i 0 ≡ rowOf (codesBelow (codeOf x y + 1) f) i
+            → getD (set l (y + 5) (bitOr (getD l (y + 5) 0) m)) i 0 ≡ rowMask (codesBelow (codeOf x y + 1) f) i
         at i h (yes q) =
             ap (λ (k : ℕ). getD (set l (y + 5) (bitOr (getD l (y + 5) 0) m)) k 0) q
             ∙ getD-set-same l (y + 5) (bitOr (getD l (y + 5) 0) m) 0 (omega (arith, len))
@@ -284,9 +284,9 @@ module _ (x y : ℕ) (hx : x < 15) (hy : y < 15) where
 
 -- none is marked at first, and all are at the end
 pub marks-none : (f : ℕ → Bool) → ((p : ℕ) → f p ≡ false) → zeros 26 ≡ marks f
-unfolding marks rowOf
+unfolding marks rowMask
 marks-none f e =
-    is-tab (zeros 26) 26 (rowOf f) (length-zeros 26)
+    is-tab (zeros 26) 26 (rowMask f) (length-zeros 26)
     (λ i h. zeros-at 26 i
     ∙ sym (mask-none 16 _ (λ x k. ap (λ (b : Bool). onBoard i x && b) (e (codeOf x (i - 5))) ∙ and-false (onBoard i x))))
 

@@ -15,7 +15,7 @@ use Rattle.rules.proofs.Tables.{table4, table5}
 use Rattle.rules.proofs.Address.{size-le}
 use Rattle.rules.proofs.Windows.{five}
 use Rattle.rules.proofs.Back.{some-back, apart-back}
-use Rattle.sweep.specs.Marks.{isMarked, Says, alongLine, lineOf, backOf, cellsIf, startsThrough, allThrough}
+use Rattle.sweep.specs.Marks.{isMarked, Says, alongLine, markedLine, backOf, cellsIf, startsThrough, allThrough}
 use Rattle.sweep.proofs.Marks.{says-as, says-and, says-or}
 
 -- a line has at most 15 cells
@@ -52,7 +52,7 @@ module _ (isFive : Bool) (f : ℕ → Bool) (d p : ℕ) where
   unfolding backOf startsThrough
   some-met =
       some-of isFive (λ k. backOf f d k p)
-      ∙ sym (some-back (cellsIf isFive) (cellNo d p) (lineOf f d p) (λ j t. line-low f d (lineNo d p) j t))
+      ∙ sym (some-back (cellsIf isFive) (cellNo d p) (markedLine f d p) (λ j t. line-low f d (lineNo d p) j t))
 
   pub apart-met : (backOf f d 0 p && ((backOf f d 2 p || backOf f d 3 p) || isFive && backOf f d 4 p)
       || backOf f d 1 p && (backOf f d 3 p || isFive && backOf f d 4 p) || backOf f d 2 p && (isFive && backOf f d 4 p))
@@ -60,7 +60,7 @@ module _ (isFive : Bool) (f : ℕ → Bool) (d p : ℕ) where
   unfolding backOf startsThrough
   apart-met =
       two-of isFive (λ k. backOf f d k p)
-      ∙ sym (apart-back (cellsIf isFive) (cellNo d p) (lineOf f d p) (λ j t. line-low f d (lineNo d p) j t))
+      ∙ sym (apart-back (cellsIf isFive) (cellNo d p) (markedLine f d p) (λ j t. line-low f d (lineNo d p) j t))
 
 -- ---- the four directions
 

@@ -23,7 +23,7 @@ use Rattle.rules.proofs.Bits.{mask-cong}
 use Rattle.masks.specs.Masks.{sumAt, Tallied}
 use Rattle.masks.proofs.Windows.{open-bit, over-bit}
 use Rattle.masks.proofs.Held.{holds-two, holds-three, holds-four}
-use Rattle.sweep.specs.Marks.{onBoard, rowOf, marks, isMarked, everyPoint, Says, alongLine, lineOf, aheadOf, backOf}
+use Rattle.sweep.specs.Marks.{onBoard, rowMask, marks, isMarked, everyPoint, Says, alongLine, markedLine, aheadOf, backOf}
 use Rattle.sweep.specs.Marks.{scoresFrom, holdsFrom, Scored, pairFrom, rowFrom}
 use Rattle.sweep.proofs.Marks.{marked-at, marks-row, row-and, row-cong, says-or, says-not}
 
@@ -37,9 +37,9 @@ along-marks f e d i hd hi =
     (λ t. marked-at f e (pointAt d i j) (point-lt d i j hd hi (ltb→lt j (lineSize d i) t))))
 
 -- no step
-no-step : (f : ℕ → Bool) (d p : ℕ) → aheadOf f d 0 p ≡ lineOf f d p (cellNo d p)
+no-step : (f : ℕ → Bool) (d p : ℕ) → aheadOf f d 0 p ≡ markedLine f d p (cellNo d p)
 unfolding aheadOf
-no-step f d p = ap (lineOf f d p) (add-zero (cellNo d p))
+no-step f d p = ap (markedLine f d p) (add-zero (cellNo d p))
 
 -- what starts at each point, read along a line: it is what starts at each cell
 module _ (d i : ℕ) (hd : d < 4) (hi : i < lineCount d) (w : ℕ → ℕ → Bool) (inside : (j : ℕ) → T (w i j) → j < lineSize d i) where
@@ -77,47 +77,47 @@ inside-here e d p hd hp =
 -- "It is free for a colour when it has no stone of the other."
 pub free-here : (f : ℕ → Bool) (d p : ℕ)
     → not ((((aheadOf f d 0 p || aheadOf f d 1 p) || aheadOf f d 2 p) || aheadOf f d 3 p) || aheadOf f d 4 p)
-    ≡ free (lineOf f d p) (cellNo d p)
+    ≡ free (markedLine f d p) (cellNo d p)
 unfolding free aheadOf
 free-here f d p =
     ap (λ (a : Bool). not (a || own 1 || own 2 || own 3 || own 4)) (no-step f d p)
     ∙ table5 (λ a b c e g. not (a || b || c || e || g)) (λ a b c e g. not a && not b && not c && not e && not g) tt
-    (lineOf f d p (cellNo d p)) (own 1) (own 2) (own 3) (own 4)
+    (markedLine f d p (cellNo d p)) (own 1) (own 2) (own 3) (own 4)
   where
     own : ℕ → Bool
-    own k = lineOf f d p (cellNo d p + k)
+    own k = markedLine f d p (cellNo d p + k)
 
 -- the window lies on its line and is free
 abbrev pub roomFrom : (ℕ → Bool) → ℕ → ℕ → Bool
-roomFrom w d p = inside (lineSize d (lineNo d p)) (cellNo d p) && free (lineOf w d p) (cellNo d p)
+roomFrom w d p = inside (lineSize d (lineNo d p)) (cellNo d p) && free (markedLine w d p) (cellNo d p)
 
 -- .. and no black stone stands just before it or just after it
 abbrev pub aliveFrom : (ℕ → Bool) → (ℕ → Bool) → ℕ → ℕ → Bool
-aliveFrom b w d p = roomFrom w d p && not (beside (lineOf b d p) (cellNo d p))
+aliveFrom b w d p = roomFrom w d p && not (beside (markedLine b d p) (cellNo d p))
 
 pub room-row : {whole : List ℕ} {a o : ℕ} (w : ℕ → Bool) (d i : ℕ) → d < 4 → whole ≡ marks everyPoint → i < 26 → a < 2 ^ 16 → o < 2 ^ 16
-    → Says a i (aheadOf (isMarked whole) d 4) → Says o i (λ p. free (lineOf w d p) (cellNo d p))
-    → bitAnd (bitAnd (getD whole i 0) a) o ≡ rowOf (roomFrom w d) i
+    → Says a i (aheadOf (isMarked whole) d 4) → Says o i (λ p. free (markedLine w d p) (cellNo d p))
+    → bitAnd (bitAnd (getD whole i 0) a) o ≡ rowMask (roomFrom w d) i
 unfolding everyPoint
 room-row w d i hd e hi ha ho sa so =
     row-and _ _ i ho (row-and everyPoint _ i ha (marks-row everyPoint e i hi) sa) so
-    ∙ row-cong _ _ i (λ p hp. ap (λ (x : Bool). x && free (lineOf w d p) (cellNo d p)) (inside-here e d p hd hp))
+    ∙ row-cong _ _ i (λ p hp. ap (λ (x : Bool). x && free (markedLine w d p) (cellNo d p)) (inside-here e d p hd hp))
 
 module _ (b w : ℕ → Bool) (d i : ℕ) where
-  pub alive-row : {m q a : ℕ} → m ≡ rowOf (roomFrom w d) i → q < 2 ^ 16 → a < 2 ^ 16 → Says q i (backOf b d 1) → Says a i (aheadOf b d 5)
-      → bitAnd m (65535 - bitOr q a) ≡ rowOf (aliveFrom b w d) i
+  pub alive-row : {m q a : ℕ} → m ≡ rowMask (roomFrom w d) i → q < 2 ^ 16 → a < 2 ^ 16 → Says q i (backOf b d 1) → Says a i (aheadOf b d 5)
+      → bitAnd m (65535 - bitOr q a) ≡ rowMask (aliveFrom b w d) i
   unfolding beside backOf aheadOf
   alive-row {m} {q} {a} e hq ha sq sa =
       row-and (roomFrom w d) _ i (ones-sub-lt 16 (bitOr q a)) e (says-not (or-lt 16 q a hq ha) (says-or sq sa))
 
-  scores-here : (n p : ℕ) → (aliveFrom b w d p && eqb (count (lineOf b d p) (cellNo d p)) n) ≡ scoresFrom b w d n p
+  scores-here : (n p : ℕ) → (aliveFrom b w d p && eqb (count (markedLine b d p) (cellNo d p)) n) ≡ scoresFrom b w d n p
   unfolding scoresFrom scores dead
   scores-here n p =
       table4 (λ i f b e. ((i && f) && not b) && e) (λ i f b e. i && not (not f || true && b) && e) tt
-      (inside (lineSize d (lineNo d p)) (cellNo d p)) (free (lineOf w d p) (cellNo d p)) (beside (lineOf b d p) (cellNo d p))
-      (eqb (count (lineOf b d p) (cellNo d p)) n)
+      (inside (lineSize d (lineNo d p)) (cellNo d p)) (free (markedLine w d p) (cellNo d p)) (beside (markedLine b d p) (cellNo d p))
+      (eqb (count (markedLine b d p) (cellNo d p)) n)
 
-  holds-here : (n p : ℕ) → (roomFrom w d p && eqb (count (lineOf b d p) (cellNo d p)) n) ≡ holdsFrom b w d n p
+  holds-here : (n p : ℕ) → (roomFrom w d p && eqb (count (markedLine b d p) (cellNo d p)) n) ≡ holdsFrom b w d n p
   unfolding holdsFrom holds
   holds-here n p = refl
 
@@ -131,14 +131,14 @@ module _ (b w : ℕ → Bool) (d i : ℕ) where
     unfolding sumAt count
     stones-le x = count-le (five (bit a0 x) (bit a1 x) (bit a2 x) (bit a3 x) (bit a4 x)) 0
 
-    stones-here : (x : ℕ) → T (onBoard i x) → stones x ≡ count (lineOf b d (codeOf x (i - 5))) (cellNo d (codeOf x (i - 5)))
+    stones-here : (x : ℕ) → T (onBoard i x) → stones x ≡ count (markedLine b d (codeOf x (i - 5))) (cellNo d (codeOf x (i - 5)))
     unfolding sumAt count aheadOf
     stones-here x t = rw (s0 .at x t, s1 .at x t, s2 .at x t, s3 .at x t, s4 .at x t, no-step b d (codeOf x (i - 5)))
 
     counted : {m : ℕ} (pass test : ℕ → Bool) (n : ℕ)
         → m ≡ maskOf 16 (λ x. (onBoard i x && pass (codeOf x (i - 5))) && eqb (stones x) n)
-        → ((p : ℕ) → (pass p && eqb (count (lineOf b d p) (cellNo d p)) n) ≡ test p) → m ≡ rowOf test i
-    unfolding rowOf
+        → ((p : ℕ) → (pass p && eqb (count (markedLine b d p) (cellNo d p)) n) ≡ test p) → m ≡ rowMask test i
+    unfolding rowMask
     counted pass test n e same =
         e ∙ mask-cong 16 _ _
         (λ x h.
@@ -147,11 +147,11 @@ module _ (b w : ℕ → Bool) (d i : ℕ) where
         ∙ and-same (onBoard i x) _ _ (λ t. ap (λ (k : ℕ). pass p && eqb k n) (stones-here x t) ∙ same p))
 
     -- THE LAW: the windows that score, and those that hold
-    pub scored-row : {room alive ones twos fours : ℕ} → room ≡ rowOf (roomFrom w d) i → alive ≡ rowOf (aliveFrom b w d) i
+    pub scored-row : {room alive ones twos fours : ℕ} → room ≡ rowMask (roomFrom w d) i → alive ≡ rowMask (aliveFrom b w d) i
         → Tallied 16 (sumAt a0 a1 a2 a3 a4) ones twos fours
-        → Scored (λ f. rowOf f i) b w d (bitAnd (bitAnd alive twos) (65535 - ones)) (bitAnd (bitAnd alive twos) ones)
+        → Scored (λ f. rowMask f i) b w d (bitAnd (bitAnd alive twos) (65535 - ones)) (bitAnd (bitAnd alive twos) ones)
         (bitAnd (bitAnd room fours) (65535 - ones))
-    unfolding rowOf
+    unfolding rowMask
     scored-row er ea t =
         record {
           twos = counted (aliveFrom b w d) _ 2 (holds-two 16 stones stones-le _ ea t) (scores-here 2);
@@ -172,21 +172,21 @@ module _ (d p : ℕ) (hd : d < 4) (hp : p < 225) (w : ℕ → ℕ → Bool) (ins
         (marked-at _ e p hp) (marks-along d (lineNo d p) hd (line-here d p hd hp) w inside e)
 
 module _ (b w : ℕ → Bool) (d : ℕ) (hd : d < 4) {s : List ℕ} where
-  pub two-row : {m a : ℕ} (i : ℕ) → s ≡ marks (scoresFrom b w d 2) → m ≡ rowOf (pairFrom (isMarked s) d) i → a < 2 ^ 16
-      → Says a i (aheadOf b d 4) → bitAnd m (65535 - a) ≡ rowOf (rowFrom b w Two d) i
+  pub two-row : {m a : ℕ} (i : ℕ) → s ≡ marks (scoresFrom b w d 2) → m ≡ rowMask (pairFrom (isMarked s) d) i → a < 2 ^ 16
+      → Says a i (aheadOf b d 4) → bitAnd m (65535 - a) ≡ rowMask (rowFrom b w Two d) i
   unfolding rowFrom rowAt scoresFrom aheadOf
   two-row {m} {a} i e em ha sa =
       row-and _ _ i (ones-sub-lt 16 a) em (says-not ha sa)
       ∙ row-cong _ _ i
       (λ p hp.
       let n = lineSize d (lineNo d p) in
-      ap (λ (x : Bool). x && not (lineOf b d p (cellNo d p + 4)))
+      ap (λ (x : Bool). x && not (markedLine b d p (cellNo d p + 4)))
       (pair-here d p hd hp (λ i j. scores true (lineSize d i) (alongLine b d i) (alongLine w d i) 2 j)
-      (λ j t. let f = scored true n (lineOf b d p) (lineOf w d p) 2 j t in omega (arith, f .fits)) e)
-      ∙ open-bit true n (lineOf b d p) (lineOf w d p) 2 (cellNo d p))
+      (λ j t. let f = scored true n (markedLine b d p) (markedLine w d p) 2 j t in omega (arith, f .fits)) e)
+      ∙ open-bit true n (markedLine b d p) (markedLine w d p) 2 (cellNo d p))
 
-  pub overlining-row : {m : ℕ} (i : ℕ) → s ≡ marks (holdsFrom b w d 4) → m ≡ rowOf (pairFrom (isMarked s) d) i
-      → m ≡ rowOf (rowFrom b w Overlining d) i
+  pub overlining-row : {m : ℕ} (i : ℕ) → s ≡ marks (holdsFrom b w d 4) → m ≡ rowMask (pairFrom (isMarked s) d) i
+      → m ≡ rowMask (rowFrom b w Overlining d) i
   unfolding rowFrom rowAt holdsFrom
   overlining-row i e em =
       em
@@ -194,8 +194,8 @@ module _ (b w : ℕ → Bool) (d : ℕ) (hd : d < 4) {s : List ℕ} where
       (λ p hp.
       let n = lineSize d (lineNo d p) in
       pair-here d p hd hp (λ i j. holds (lineSize d i) (alongLine b d i) (alongLine w d i) 4 j)
-      (λ j t. let f = held n (lineOf b d p) (lineOf w d p) 4 j t in omega (arith, f .fits)) e
-      ∙ over-bit n (lineOf b d p) (lineOf w d p) 4 (cellNo d p))
+      (λ j t. let f = held n (markedLine b d p) (markedLine w d p) 4 j t in omega (arith, f .fits)) e
+      ∙ over-bit n (markedLine b d p) (markedLine w d p) 4 (cellNo d p))
 
   pub sword-rows : s ≡ marks (scoresFrom b w d 3) → s ≡ marks (rowFrom b w Sword d)
   unfolding rowFrom rowAt scoresFrom

@@ -20,12 +20,12 @@ unfoldable pub onBoard : ℕ → ℕ → Bool
 onBoard i x = leb 5 i && ltb i 20 && ltb x 15
 
 -- mask i of the marks of the points that pass a test
-unfoldable pub rowOf : (ℕ → Bool) → ℕ → ℕ
-rowOf f i = maskOf 16 (λ x. onBoard i x && f (codeOf x (i - 5)))
+unfoldable pub rowMask : (ℕ → Bool) → ℕ → ℕ
+rowMask f i = maskOf 16 (λ x. onBoard i x && f (codeOf x (i - 5)))
 
 -- the marks of the points that pass a test
 unfoldable pub marks : (ℕ → Bool) → List ℕ
-marks f = tab 26 (rowOf f)
+marks f = tab 26 (rowMask f)
 
 -- a point to ask about: of 225 cells, empty, and some kind may apply there
 unfoldable pub askedAt : List ℕ → ℕ → Bool
@@ -62,25 +62,25 @@ unfoldable pub alongLine : (ℕ → Bool) → ℕ → ℕ → Stones
 alongLine f d i j = ltb j (lineSize d i) && f (pointAt d i j)
 
 -- the line through p, cell by cell
-abbrev pub lineOf : (ℕ → Bool) → ℕ → ℕ → Stones
-lineOf f d p = alongLine f d (lineNo d p)
+abbrev pub markedLine : (ℕ → Bool) → ℕ → ℕ → Stones
+markedLine f d p = alongLine f d (lineNo d p)
 
 -- the point k cells after p on its line passes, and the one k cells before it
 unfoldable pub aheadOf : (ℕ → Bool) → ℕ → ℕ → ℕ → Bool
-aheadOf f d k p = lineOf f d p (cellNo d p + k)
+aheadOf f d k p = markedLine f d p (cellNo d p + k)
 
 unfoldable pub backOf : (ℕ → Bool) → ℕ → ℕ → ℕ → Bool
-backOf f d k p = leb k (cellNo d p) && lineOf f d p (cellNo d p - k)
+backOf f d k p = leb k (cellNo d p) && markedLine f d p (cellNo d p - k)
 
 -- ---- windows that start at a point, of Black's marks and White's
 
 -- its score is n
 unfoldable pub scoresFrom : (ℕ → Bool) → (ℕ → Bool) → ℕ → ℕ → ℕ → Bool
-scoresFrom blacks whites d n p = scores true (lineSize d (lineNo d p)) (lineOf blacks d p) (lineOf whites d p) n (cellNo d p)
+scoresFrom blacks whites d n p = scores true (lineSize d (lineNo d p)) (markedLine blacks d p) (markedLine whites d p) n (cellNo d p)
 
 -- it is free and holds n
 unfoldable pub holdsFrom : (ℕ → Bool) → (ℕ → Bool) → ℕ → ℕ → ℕ → Bool
-holdsFrom blacks whites d n p = holds (lineSize d (lineNo d p)) (lineOf blacks d p) (lineOf whites d p) n (cellNo d p)
+holdsFrom blacks whites d n p = holds (lineSize d (lineNo d p)) (markedLine blacks d p) (markedLine whites d p) n (cellNo d p)
 
 -- The windows that score 2, those that score 3, and those that are free and hold 4. `told` makes of a test of points what tells it: the
 -- mask of a row of points, or the marks of all.
@@ -95,7 +95,7 @@ pairFrom w d p = w p && backOf w d 1 p
 
 -- a row of the kind starts at p
 unfoldable pub rowFrom : (ℕ → Bool) → (ℕ → Bool) → RowKind → ℕ → ℕ → Bool
-rowFrom blacks whites k d p = rowAt true (lineSize d (lineNo d p)) (lineOf blacks d p) (lineOf whites d p) k (cellNo d p)
+rowFrom blacks whites k d p = rowAt true (lineSize d (lineNo d p)) (markedLine blacks d p) (markedLine whites d p) k (cellNo d p)
 
 -- three lists of marks: where the rows of three kinds start
 pub record AllRows (blacks whites : ℕ → Bool) (d : ℕ) (two sword overlining : List ℕ) : Type 0 where
@@ -111,7 +111,7 @@ cellsIf five = cond five 5 4
 
 -- the rows of n cells on the line through p that go through p, by their starts
 unfoldable pub startsThrough : ℕ → (ℕ → Bool) → ℕ → ℕ → ℕ → Bool
-startsThrough n row d p j = among n j (cellNo d p) && lineOf row d p j
+startsThrough n row d p j = among n j (cellNo d p) && markedLine row d p j
 
 -- one of four lists of marks, by the direction
 abbrev pub marksIn : List ℕ → List ℕ → List ℕ → List ℕ → ℕ → List ℕ

@@ -10,7 +10,7 @@ ghost use Rattle.rules.specs.Bit.{bit, maskOf};
 ghost use Rattle.rules.specs.Point.{xOf, yOf, byDirection};
 ghost use Rattle.sweep.specs.Marks.{marks, isMarked, Marked, everyPoint, codesBelow, hasValue, Says, aheadOf, backOf};
 
-// Whether a point is marked.
+// Whether a point is marked. (A code over 224 is no point: bit 15 or more of a mask, which `sweep_points` leaves clear.)
 pub fn is_marked(marks: &[u16; 26], code: u8) -> bool
     ensures { λ r. ⌜ r ≡ bit (getD (now (marks .entry)) (yOf code + 5) 0) (xOf code) ⌝ }
 {

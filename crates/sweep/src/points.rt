@@ -3,7 +3,7 @@ use super::marking::marks_of;
 use super::marking::whole;
 use super::through::more_at;
 use super::through::some_at;
-use super::windows::rows_in;
+use super::windows::rows_along;
 ghost use mathlib.Core.Path.{_≡_};
 ghost use lib.ListN.{length};
 ghost use Rattle.sweep.specs.Marks.{marks, askedAt};
@@ -28,10 +28,10 @@ fn sweep_board(cells: &[u8]) -> [u16; 26]
     let blacks = marks_of(cells, 1);
     let whites = marks_of(cells, 2);
     let all = whole();
-    let v = rows_in(&blacks, &whites, &all, 0);
-    let h = rows_in(&blacks, &whites, &all, 1);
-    let a = rows_in(&blacks, &whites, &all, 2);
-    let d = rows_in(&blacks, &whites, &all, 3);
+    let v = rows_along(&blacks, &whites, &all, 0);
+    let h = rows_along(&blacks, &whites, &all, 1);
+    let a = rows_along(&blacks, &whites, &all, 2);
+    let d = rows_along(&blacks, &whites, &all, 3);
     let mut asked = [0u16; 26];
     let mut i = 5usize;
     while i < 21 {

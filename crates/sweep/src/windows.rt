@@ -6,7 +6,7 @@ ghost use mathlib.Core.Path.{_≡_};
 ghost use Prim.Native.Nat.{_≤_, _<_};
 ghost use Rattle.rules.specs.Line.{free};
 ghost use Rattle.rules.specs.Point.{cellNo};
-ghost use Rattle.sweep.specs.Marks.{rowOf, marks, isMarked, Marked, everyPoint, Says, lineOf, Scored, AllRows, pairFrom};
+ghost use Rattle.sweep.specs.Marks.{rowMask, marks, isMarked, Marked, everyPoint, Says, markedLine, Scored, AllRows, pairFrom};
 
 // Where a Two, a Sword and an Overlining of Black's starts.
 pub(crate) struct Rows {
@@ -32,7 +32,7 @@ struct Scores {
 // "Sword, Four, Five at j: score 3, 4, 5." "Two, Three, Straight at j: windows j−1 and j both score 2, 3, 4 and cell j+4 is empty": window
 // j is free, so only a black stone can stand there. "Overlining, Overlined at j: windows j−1 and j are both free and both hold 4, or both
 // 5, counted without the dead rule."
-pub(crate) fn rows_in(blacks: &[u16; 26], whites: &[u16; 26], whole: &[u16; 26], d: u8) -> Rows
+pub(crate) fn rows_along(blacks: &[u16; 26], whites: &[u16; 26], whole: &[u16; 26], d: u8) -> Rows
     requires { ⌜ Marked (now blacks) × Marked (now whites) × (now whole ≡ marks everyPoint) × (d < 4) ⌝ }
     ensures { λ r. ⌜ AllRows (isMarked (now (blacks .entry))) (isMarked (now (whites .entry))) d
         (r .twos) (r .swords) (r .overs) ⌝ }
@@ -57,7 +57,7 @@ pub(crate) fn rows_in(blacks: &[u16; 26], whites: &[u16; 26], whole: &[u16; 26],
 // For each point of row i, whether the windows that start there and one cell before it are both marked.
 fn both(m: &[u16; 26], d: u8, i: usize) -> u16
     requires { ⌜ Marked (now m) × (d < 4) × (5 ≤ i) × (i < 21) ⌝ }
-    ensures { λ r. ⌜ r ≡ rowOf (pairFrom (isMarked (now (m .entry))) d) i ⌝ }
+    ensures { λ r. ⌜ r ≡ rowMask (pairFrom (isMarked (now (m .entry))) d) i ⌝ }
 {
     m[i] & back(m, d, i, 1)
 }
@@ -90,7 +90,7 @@ fn windows_in(blacks: &[u16; 26], whites: &[u16; 26], whole: &[u16; 26], d: u8) 
 // also if a black stone stands at j−1 or j+5." It holds at most five stones, so two digits of their number tell 2, 3 and 4.
 fn scores_at(blacks: &[u16; 26], whites: &[u16; 26], whole: &[u16; 26], d: u8, i: usize) -> Scores
     requires { ⌜ Marked (now blacks) × Marked (now whites) × (now whole ≡ marks everyPoint) × (d < 4) × (5 ≤ i) × (i < 21) ⌝ }
-    ensures { λ r. ⌜ Scored (λ f. rowOf f i) (isMarked (now (blacks .entry))) (isMarked (now (whites .entry))) d
+    ensures { λ r. ⌜ Scored (λ f. rowMask f i) (isMarked (now (blacks .entry))) (isMarked (now (whites .entry))) d
         (r .two) (r .three) (r .four) ⌝ }
 {
     let free = whole[i] & ahead(whole, d, i, 4) & none_of(whites, d, i);
@@ -113,7 +113,7 @@ fn scores_at(blacks: &[u16; 26], whites: &[u16; 26], whole: &[u16; 26], d: u8, i
 // marked.
 fn none_of(m: &[u16; 26], d: u8, i: usize) -> u16
     requires { ⌜ Marked (now m) × (d < 4) × (5 ≤ i) × (i < 21) ⌝ }
-    ensures { λ r. ⌜ Says r i (λ p. free (lineOf (isMarked (now (m .entry))) d p) (cellNo d p)) ⌝ }
+    ensures { λ r. ⌜ Says r i (λ p. free (markedLine (isMarked (now (m .entry))) d p) (cellNo d p)) ⌝ }
 {
     !(ahead(m, d, i, 0)
         | ahead(m, d, i, 1)

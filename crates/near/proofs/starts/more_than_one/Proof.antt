@@ -4,11 +4,11 @@ use mathlib.Core.Path.{_∙_, ap}
 use Prim.Native.Nat.{ℕ}
 use native.Mathlib.Omega.{arith}
 use Rattle.rules.specs.Bit.{bit}
-use Rattle.rules.specs.Grid.{startsOf}
+use Rattle.rules.specs.Grid.{startsOf, numbered}
 use Rattle.rules.specs.Forbidden.{apart}
-use Rattle.near.specs.Places.{numbered}
-use Rattle.near.proofs.More.{first-lt, past-first, apart-mask, more-numbered}
+use Rattle.near.proofs.More.{first-lt, past-first, apart-mask}
 use Rattle.near.proofs.Places.{named-low}
+use Rattle.rules.proofs.Numbered.{more-numbered}
 use Rattle.near.proofs.starts.more_than_one.Statement.{statement}
 use Rattle.near.proofs.starts.more_than_one.Tie as tie
 use Rattle.near.proofs.starts.more_than_one.Reads as reads

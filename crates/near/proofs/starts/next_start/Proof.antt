@@ -5,9 +5,9 @@ use Prim.Native.Nat.{ℕ, _/_, _^_}
 use native.Mathlib.Omega.{arith}
 use lib.Count.{trailing-le}
 use Rattle.rules.specs.Bit.{bit}
-use Rattle.rules.specs.Grid.{startsOf}
-use Rattle.near.specs.Places.{numbered, nextFrom}
-use Rattle.near.proofs.Next.{next-past, next-zero, next-low, next-mask}
+use Rattle.rules.specs.Grid.{startsOf, numbered, nextFrom}
+use Rattle.near.proofs.Next.{next-zero, next-low, next-mask}
+use Rattle.rules.proofs.Numbered.{next-past}
 use Rattle.near.proofs.starts.next_start.Statement.{statement}
 use Rattle.near.proofs.starts.next_start.Tie as tie
 use Rattle.near.proofs.starts.next_start.Reads as reads

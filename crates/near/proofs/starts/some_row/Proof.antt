@@ -4,10 +4,9 @@ use mathlib.Core.Path.{_∙_, ap}
 use mathlib.Core.Bool.{not}
 use Prim.Native.Nat.{ℕ}
 use lib.Dec.{eqb}
-use Rattle.rules.specs.Grid.{startsOf}
+use Rattle.rules.specs.Grid.{startsOf, numbered}
 use Rattle.rules.proofs.Bits.{mask-any}
-use Rattle.near.specs.Places.{numbered}
-use Rattle.near.proofs.More.{some-numbered}
+use Rattle.rules.proofs.Numbered.{some-numbered}
 use Rattle.near.proofs.starts.some_row.Statement.{statement}
 use Rattle.near.proofs.starts.some_row.Tie as tie
 use Rattle.near.proofs.starts.some_row.Reads as reads

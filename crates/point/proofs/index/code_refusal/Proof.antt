@@ -1,6 +1,6 @@
 -- `point::index::code_refusal` meets its contract: what it calls says it. Assumes nothing.
 use borrow.Author.Needs.{needs}
-use Rattle.point.specs.Points.{codeRefusal}
+use Rattle.rules.specs.Refusals.{codeRefusal}
 use Rattle.point.proofs.index.code_refusal.Statement.{statement}
 use Rattle.point.proofs.index.code_refusal.Tie as tie
 

@@ -1,6 +1,6 @@
 -- `point::index::direction_refusal` meets its contract: what it calls says it. Assumes nothing.
 use borrow.Author.Needs.{needs}
-use Rattle.point.specs.Points.{directionRefusal}
+use Rattle.rules.specs.Refusals.{directionRefusal}
 use Rattle.point.proofs.index.direction_refusal.Statement.{statement}
 use Rattle.point.proofs.index.direction_refusal.Tie as tie
 

@@ -1,6 +1,6 @@
 -- `point::key::key_refusal` meets its contract: what it calls says it. Assumes nothing.
 use borrow.Author.Needs.{needs}
-use Rattle.point.specs.Points.{keyRefusal}
+use Rattle.rules.specs.Refusals.{keyRefusal}
 use Rattle.point.proofs.key.key_refusal.Statement.{statement}
 use Rattle.point.proofs.key.key_refusal.Tie as tie
 

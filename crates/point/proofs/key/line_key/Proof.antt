@@ -4,7 +4,7 @@ use native.Mathlib.Omega.{arith}
 use borrow.Author.Needs.{needs}
 use borrow.Author.Tests.{eq-eqb, ne-eqb}
 use Rattle.point.specs.Answers.{keyAnswer}
-use Rattle.point.proofs.Refused.{line-in, count-le}
+use Rattle.point.proofs.Refused.{line-in, lines-le}
 use Rattle.point.proofs.key.line_key.Statement.{statement}
 use Rattle.point.proofs.key.line_key.Tie as tie
 
@@ -22,7 +22,7 @@ key-of-requires : tie.Need-key-of-requires
 key-of-requires c κs =
     let a = c .before .before .before .before .args in
     let h = line-in (a .d) (a .i) (sym (c .before .before .before .line-refusal .ensures) ∙ c .before .before .if1 .left) in
-    omega (arith, count-le (a .d), h .1)
+    omega (arith, lines-le (a .d), h .1)
 
 returns-2 : tie.Need-returns-2
 unfolding keyAnswer

@@ -1,6 +1,6 @@
 -- `point::key::line_refusal` meets its contract: what it calls says it. Assumes nothing.
 use borrow.Author.Needs.{needs}
-use Rattle.point.specs.Points.{lineRefusal}
+use Rattle.rules.specs.Refusals.{lineNoRefusal}
 use Rattle.point.proofs.key.line_refusal.Statement.{statement}
 use Rattle.point.proofs.key.line_refusal.Tie as tie
 
@@ -17,7 +17,7 @@ first-requires : tie.Need-first-requires
 first-requires c κs = search needs
 
 returns : tie.Need-returns
-unfolding lineRefusal
+unfolding lineNoRefusal
 returns c = simp (
   c .before .before .before .direction-refusal .ensures,
   c .before .before .line-count .ensures,

@@ -5,8 +5,8 @@ use Rattle.point.proofs.Ways.{by-way}
 use Rattle.point.proofs.lines.by_direction.Statement.{statement}
 use Rattle.point.proofs.lines.by_direction.Tie as tie
 
-of-requires : tie.Need-of-requires
-of-requires c κs = search needs
+or-descending-requires : tie.Need-or-descending-requires
+or-descending-requires c κs = search needs
 
 enum-told : tie.Need-enum-told
 enum-told c = search needs
@@ -24,31 +24,31 @@ returns : tie.Need-returns
 returns c =
     let a = c .before .before .before .args in
     rw (by-way (a .d) (a .vertical) (a .horizontal) (a .ascending) (a .descending)
-    (sym (c .before .before .of .ensures) ∙ c .enum-told .given .1))
+    (sym (c .before .before .or-descending .ensures) ∙ c .enum-told .given .1))
 
 returns-2 : tie.Need-returns-2
 returns-2 c =
     let a = c .before .before .before .args in
     rw (by-way (a .d) (a .vertical) (a .horizontal) (a .ascending) (a .descending)
-    (sym (c .before .before .of .ensures) ∙ c .enum-told2 .given .1))
+    (sym (c .before .before .or-descending .ensures) ∙ c .enum-told2 .given .1))
 
 returns-3 : tie.Need-returns-3
 returns-3 c =
     let a = c .before .before .before .args in
     rw (by-way (a .d) (a .vertical) (a .horizontal) (a .ascending) (a .descending)
-    (sym (c .before .before .of .ensures) ∙ c .enum-told3 .given .1))
+    (sym (c .before .before .or-descending .ensures) ∙ c .enum-told3 .given .1))
 
 returns-4 : tie.Need-returns-4
 returns-4 c =
     let a = c .before .before .before .args in
     rw (by-way (a .d) (a .vertical) (a .horizontal) (a .ascending) (a .descending)
-    (sym (c .before .before .of .ensures) ∙ c .enum-told4 .given .1))
+    (sym (c .before .before .or-descending .ensures) ∙ c .enum-told4 .given .1))
 
 pub by-direction-spec : {M : Type 1} → statement M
 by-direction-spec =
     tie.close
     (tie.spec
-    of-requires
+    or-descending-requires
     enum-told
     enum-told-2
     enum-told-3

@@ -6,8 +6,8 @@ use Rattle.point.proofs.Ways.{by-way}
 use Rattle.point.proofs.lines.point_at.Statement.{statement}
 use Rattle.point.proofs.lines.point_at.Tie as tie
 
-of-requires : tie.Need-of-requires
-of-requires c κs = search needs
+or-descending-requires : tie.Need-or-descending-requires
+or-descending-requires c κs = search needs
 
 enum-told : tie.Need-enum-told
 enum-told c = search needs
@@ -37,31 +37,31 @@ returns : tie.Need-returns
 unfolding pointAt
 returns c =
     let a = c .before .before .before .before .args in
-    rw (by-way (a .d) _ _ _ _ (sym (c .before .before .before .of .ensures) ∙ c .before .enum-told .given .1)) (c .code-of .ensures)
+    rw (by-way (a .d) _ _ _ _ (sym (c .before .before .before .or-descending .ensures) ∙ c .before .enum-told .given .1)) (c .code-of .ensures)
 
 returns-2 : tie.Need-returns-2
 unfolding pointAt
 returns-2 c =
     let a = c .before .before .before .before .args in
-    rw (by-way (a .d) _ _ _ _ (sym (c .before .before .before .of .ensures) ∙ c .before .enum-told2 .given .1)) (c .code-of2 .ensures)
+    rw (by-way (a .d) _ _ _ _ (sym (c .before .before .before .or-descending .ensures) ∙ c .before .enum-told2 .given .1)) (c .code-of2 .ensures)
 
 returns-3 : tie.Need-returns-3
 unfolding pointAt
 returns-3 c =
     let a = c .before .before .before .before .args in
-    rw (by-way (a .d) _ _ _ _ (sym (c .before .before .before .of .ensures) ∙ c .before .enum-told3 .given .1)) (c .ascending-at .ensures)
+    rw (by-way (a .d) _ _ _ _ (sym (c .before .before .before .or-descending .ensures) ∙ c .before .enum-told3 .given .1)) (c .ascending-at .ensures)
 
 returns-4 : tie.Need-returns-4
 unfolding pointAt
 returns-4 c =
     let a = c .before .before .before .before .args in
-    rw (by-way (a .d) _ _ _ _ (sym (c .before .before .before .of .ensures) ∙ c .before .enum-told4 .given .1)) (c .descending-at .ensures)
+    rw (by-way (a .d) _ _ _ _ (sym (c .before .before .before .or-descending .ensures) ∙ c .before .enum-told4 .given .1)) (c .descending-at .ensures)
 
 pub point-at-spec : {M : Type 1} → statement M
 point-at-spec =
     tie.close
     (tie.spec
-    of-requires
+    or-descending-requires
     enum-told
     code-of-requires
     enum-told-2

@@ -1,6 +1,6 @@
 -- `point::view::view_refusal` meets its contract: what it calls says it. Assumes nothing.
 use borrow.Author.Needs.{needs}
-use Rattle.point.specs.Points.{viewRefusal}
+use Rattle.rules.specs.Refusals.{viewRefusal}
 use Rattle.point.proofs.view.view_refusal.Statement.{statement}
 use Rattle.point.proofs.view.view_refusal.Tie as tie
 

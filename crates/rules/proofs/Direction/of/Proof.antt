@@ -1,23 +1,25 @@
--- `rules::Direction::of` meets its contract: its arms are the cases of the definition. Assumes nothing.
-use borrow.Author.Tests.{ne-eqb}
+-- `rules::Direction::of` meets its contract: the refusal, or what the number names. Assumes nothing.
+use borrow.Author.Needs.{needs}
+use Rattle.rules.specs.Refusals.{directionRefusal}
+use Rattle.rules.specs.Answers.{directionAnswer}
+use Rattle.rules.specs.declared.answer.DirectionAnswer.the-variants.{Is, Refused}
+use Rattle.rules.proofs.Refusals.{value-given, refusal-given}
 use Rattle.rules.proofs.Direction.of.Statement.{statement}
 use Rattle.rules.proofs.Direction.of.Tie as tie
 
+unless-requires : tie.Need-unless-requires
+unless-requires c κs = search needs
+
 returns : tie.Need-returns
-returns c = rw (c .match .keys1)
+unfolding directionAnswer directionRefusal
+returns c = refusal-given Is Refused _ (c .before .unless .ensures) (c .if1 .taken)
+
+or-descending-requires : tie.Need-or-descending-requires
+or-descending-requires c κs = search needs
 
 returns-2 : tie.Need-returns-2
-returns-2 c = rw (c .match .keys2)
-
-returns-3 : tie.Need-returns-3
-returns-3 c = rw (c .match .keys3)
-
-returns-4 : tie.Need-returns-4
-returns-4 c = simp (
-  ne-eqb _ 0 (c .match .rest .0 .0 .1),
-  ne-eqb _ 1 (c .match .rest .0 .1),
-  ne-eqb _ 2 (c .match .rest .1),
-)
+unfolding directionAnswer directionRefusal
+returns-2 c = value-given Is Refused _ (c .before .before .unless .ensures) (c .before .if1 .left) (c .or-descending .ensures)
 
 pub of-spec : {M : Type 1} → statement M
-of-spec = tie.close (tie.spec returns returns-2 returns-3 returns-4)
+of-spec = tie.close (tie.spec unless-requires returns or-descending-requires returns-2)

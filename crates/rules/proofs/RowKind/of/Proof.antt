@@ -1,39 +1,24 @@
--- `rules::RowKind::of` meets its contract: its arms are the cases of the definition. Assumes nothing.
-use borrow.Author.Tests.{ne-eqb}
+-- `rules::RowKind::of` meets its contract: the refusal, or what the number names. Assumes nothing.
+use borrow.Author.Needs.{needs}
+use Rattle.rules.specs.Answers.{kindAnswer}
+use Rattle.rules.specs.declared.answer.KindAnswer.the-variants.{Is, Refused}
+use Rattle.rules.proofs.Refusals.{value-given, refusal-given}
 use Rattle.rules.proofs.RowKind.of.Statement.{statement}
 use Rattle.rules.proofs.RowKind.of.Tie as tie
 
+kind-refusal-requires : tie.Need-kind-refusal-requires
+kind-refusal-requires c κs = search needs
+
 returns : tie.Need-returns
-returns c = rw (c .match .keys1)
+unfolding kindAnswer
+returns c = refusal-given Is Refused _ (c .before .kind-refusal .ensures) (c .if1 .taken)
+
+or-overlined-requires : tie.Need-or-overlined-requires
+or-overlined-requires c κs = search needs
 
 returns-2 : tie.Need-returns-2
-returns-2 c = rw (c .match .keys2)
-
-returns-3 : tie.Need-returns-3
-returns-3 c = rw (c .match .keys3)
-
-returns-4 : tie.Need-returns-4
-returns-4 c = rw (c .match .keys4)
-
-returns-5 : tie.Need-returns-5
-returns-5 c = rw (c .match .keys5)
-
-returns-6 : tie.Need-returns-6
-returns-6 c = rw (c .match .keys6)
-
-returns-7 : tie.Need-returns-7
-returns-7 c = rw (c .match .keys7)
-
-returns-8 : tie.Need-returns-8
-returns-8 c = simp (
-  ne-eqb _ 0 (c .match .rest .0 .0 .0 .0 .0 .0 .1),
-  ne-eqb _ 1 (c .match .rest .0 .0 .0 .0 .0 .1),
-  ne-eqb _ 2 (c .match .rest .0 .0 .0 .0 .1),
-  ne-eqb _ 3 (c .match .rest .0 .0 .0 .1),
-  ne-eqb _ 4 (c .match .rest .0 .0 .1),
-  ne-eqb _ 5 (c .match .rest .0 .1),
-  ne-eqb _ 6 (c .match .rest .1),
-)
+unfolding kindAnswer
+returns-2 c = value-given Is Refused _ (c .before .before .kind-refusal .ensures) (c .before .if1 .left) (c .or-overlined .ensures)
 
 pub of-spec : {M : Type 1} → statement M
-of-spec = tie.close (tie.spec returns returns-2 returns-3 returns-4 returns-5 returns-6 returns-7 returns-8)
+of-spec = tie.close (tie.spec kind-refusal-requires returns or-overlined-requires returns-2)

@@ -13,14 +13,14 @@ row-refusal-requires c κs = search needs
 first-requires : tie.Need-first-requires
 first-requires c κs = search needs
 
-of-requires : tie.Need-of-requires
-of-requires c κs = search needs
+or-overlined-requires : tie.Need-or-overlined-requires
+or-overlined-requires c κs = search needs
 
 is-match-requires : tie.Need-is-match-requires
 is-match-requires c κs = search needs
 
-of-requires-2 : tie.Need-of-requires-2
-of-requires-2 c κs = search needs
+of-requires : tie.Need-of-requires
+of-requires c κs = search needs
 
 returns : tie.Need-returns
 unfolding matchRefusal
@@ -28,9 +28,9 @@ returns c = simp (
   c .before .before .before .before .before .before-refusal .ensures,
   c .before .before .before .before .row-refusal .ensures,
   c .before .before .before .first .ensures,
-  c .before .before .of .ensures,
+  c .before .before .or-overlined .ensures,
   c .before .is-match .ensures,
-  c .of2 .ensures,
+  c .of .ensures,
 )
 
 pub matches-spec : {M : Type 1} → statement M
@@ -40,7 +40,7 @@ matches-spec =
     before-refusal-requires
     row-refusal-requires
     first-requires
-    of-requires
+    or-overlined-requires
     is-match-requires
-    of-requires-2
+    of-requires
     returns)

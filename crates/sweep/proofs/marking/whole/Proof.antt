@@ -3,15 +3,15 @@ use mathlib.Core.Path.{_≡_}
 use Prim.Native.Nat.{_≤_, _-_}
 use native.Mathlib.Omega.{arith}
 use Rattle.lent.specs.Lists.{zeros}
-use Rattle.grid.proofs.Filled.{filled}
-use Rattle.sweep.specs.Marks.{rowOf, everyPoint}
+use Rattle.sweep.specs.Marks.{rowMask, everyPoint}
 use Rattle.sweep.proofs.Marks.{rows-start, rows-more, rows-end, full-row}
+use Rattle.cells.proofs.Filled.{filled}
 use borrow.Author.Needs.{needs}
 use Rattle.sweep.proofs.marking.whole.Statement.{statement}
 use Rattle.sweep.proofs.marking.whole.Tie as tie
 
 abbrev Inv-loop : tie.InvT-loop
-Inv-loop marks₀ i₀ marks i = (5 ≤ i) × (i ≤ 20) × (marks ≡ filled 26 (rowOf everyPoint) i)
+Inv-loop marks₀ i₀ marks i = (5 ≤ i) × (i ≤ 20) × (marks ≡ filled 26 (rowMask everyPoint) i)
 
 abbrev μ-loop : tie.MeasureT-loop
 μ-loop marks₀ i₀ marks i = 20 - i

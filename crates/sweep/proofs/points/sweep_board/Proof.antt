@@ -4,17 +4,17 @@ use mathlib.Core.Path.{_≡_}
 use Prim.Native.Nat.{_≤_, _-_}
 use native.Mathlib.Omega.{arith}
 use Rattle.lent.specs.Lists.{zeros}
-use Rattle.grid.proofs.Filled.{filled}
-use Rattle.sweep.specs.Marks.{rowOf, askedAt, isMarked, AllRows}
+use Rattle.sweep.specs.Marks.{rowMask, askedAt, isMarked, AllRows}
 use Rattle.sweep.proofs.Marks.{as-marked, rows-start, rows-more, rows-end}
 use Rattle.sweep.proofs.Board.{asked-row}
+use Rattle.cells.proofs.Filled.{filled}
 use borrow.Author.Needs.{needs}
 use Rattle.sweep.proofs.points.sweep_board.Statement.{statement}
 use Rattle.sweep.proofs.points.sweep_board.Tie as tie
 
 abbrev Inv-loop : tie.InvT-loop
 Inv-loop cells blacks whites all v h a d asked₀ i₀ asked i =
-    (5 ≤ i) × (i ≤ 21) × (asked ≡ filled 26 (rowOf (askedAt cells)) i)
+    (5 ≤ i) × (i ≤ 21) × (asked ≡ filled 26 (rowMask (askedAt cells)) i)
     × AllRows (isMarked blacks) (isMarked whites) 0 (v .twos) (v .swords) (v .overs)
     × AllRows (isMarked blacks) (isMarked whites) 1 (h .twos) (h .swords) (h .overs)
     × AllRows (isMarked blacks) (isMarked whites) 2 (a .twos) (a .swords) (a .overs)
@@ -32,23 +32,23 @@ marks-of-requires-2 c κs = search needs
 whole-requires : tie.Need-whole-requires Inv-loop μ-loop
 whole-requires c κs = search needs
 
-rows-in-requires : tie.Need-rows-in-requires Inv-loop μ-loop
-rows-in-requires c κs =
+rows-along-requires : tie.Need-rows-along-requires Inv-loop μ-loop
+rows-along-requires c κs =
     let w = c .before .before .before in
     (as-marked _ (w .before .before .marks-of .ensures), as-marked _ (w .before .marks-of2 .ensures), w .whole .ensures, omega arith)
 
-rows-in-requires-2 : tie.Need-rows-in-requires-2 Inv-loop μ-loop
-rows-in-requires-2 c κs =
+rows-along-requires-2 : tie.Need-rows-along-requires-2 Inv-loop μ-loop
+rows-along-requires-2 c κs =
     let w = c .before .before .before .before .before .before .before in
     (as-marked _ (w .before .before .marks-of .ensures), as-marked _ (w .before .marks-of2 .ensures), w .whole .ensures, omega arith)
 
-rows-in-requires-3 : tie.Need-rows-in-requires-3 Inv-loop μ-loop
-rows-in-requires-3 c κs =
+rows-along-requires-3 : tie.Need-rows-along-requires-3 Inv-loop μ-loop
+rows-along-requires-3 c κs =
     let w = c .before .before .before .before .before .before .before .before .before .before .before in
     (as-marked _ (w .before .before .marks-of .ensures), as-marked _ (w .before .marks-of2 .ensures), w .whole .ensures, omega arith)
 
-rows-in-requires-4 : tie.Need-rows-in-requires-4 Inv-loop μ-loop
-rows-in-requires-4 c κs =
+rows-along-requires-4 : tie.Need-rows-along-requires-4 Inv-loop μ-loop
+rows-along-requires-4 c κs =
     let w = c .before .before .before .before .before .before .before .before .before .before .before .before .before .before .before in
     (as-marked _ (w .before .before .marks-of .ensures), as-marked _ (w .before .marks-of2 .ensures), w .whole .ensures, omega arith)
 
@@ -58,7 +58,7 @@ loop-holds c =
     let a = c .before .before .before .before in
     let h = a .before .before .before .before in
     let v = h .before .before .before .before in
-    (omega arith, omega arith, rows-start _, v .rows-in .ensures, h .rows-in2 .ensures, a .rows-in3 .ensures, c .rows-in4 .ensures)
+    (omega arith, omega arith, rows-start _, v .rows-along .ensures, h .rows-along2 .ensures, a .rows-along3 .ensures, c .rows-along4 .ensures)
 
 some-at-requires : tie.Need-some-at-requires Inv-loop μ-loop
 some-at-requires c κs =
@@ -147,10 +147,10 @@ sweep-board-spec =
     marks-of-requires
     marks-of-requires-2
     whole-requires
-    rows-in-requires
-    rows-in-requires-2
-    rows-in-requires-3
-    rows-in-requires-4
+    rows-along-requires
+    rows-along-requires-2
+    rows-along-requires-3
+    rows-along-requires-4
     loop-holds
     some-at-requires
     more-at-requires

@@ -2,16 +2,16 @@
 use Prim.Native.Nat.{_≤_, _-_}
 use native.Mathlib.Omega.{arith}
 use Rattle.lent.specs.Lists.{zeros}
-use Rattle.grid.proofs.Filled.{filled}
-use Rattle.sweep.specs.Marks.{rowOf, isMarked, Scored}
+use Rattle.sweep.specs.Marks.{rowMask, isMarked, Scored}
 use Rattle.sweep.proofs.Marks.{rows-start, rows-more, rows-end}
+use Rattle.cells.proofs.Filled.{filled}
 use borrow.Author.Needs.{needs}
 use Rattle.sweep.proofs.windows.windows_in.Statement.{statement}
 use Rattle.sweep.proofs.windows.windows_in.Tie as tie
 
 abbrev Inv-loop : tie.InvT-loop
 Inv-loop blacks whites whole d twos₀ threes₀ fours₀ i₀ twos threes fours i =
-    (5 ≤ i) × (i ≤ 21) × Scored (λ f. filled 26 (rowOf f) i) (isMarked blacks) (isMarked whites) d twos threes fours
+    (5 ≤ i) × (i ≤ 21) × Scored (λ f. filled 26 (rowMask f) i) (isMarked blacks) (isMarked whites) d twos threes fours
 
 abbrev μ-loop : tie.MeasureT-loop
 μ-loop blacks whites whole d twos₀ threes₀ fours₀ i₀ twos threes fours i = 21 - i

@@ -1,6 +1,6 @@
 -- `line::Line::refusal_at` meets its contract: what it calls says it. Assumes nothing.
 use borrow.Author.Needs.{needs}
-use Rattle.line.specs.Lines.{refusalAt}
+use Rattle.line.specs.Lines.{lineRefusalAt}
 use Rattle.line.proofs.line.Line.refusal_at.Statement.{statement}
 use Rattle.line.proofs.line.Line.refusal_at.Tie as tie
 
@@ -14,7 +14,7 @@ first-requires : tie.Need-first-requires
 first-requires c κs = search needs
 
 returns : tie.Need-returns
-unfolding refusalAt
+unfolding lineRefusalAt
 returns c = simp (c .before .before .refusal .ensures, c .before .cell-refusal .ensures, c .first .ensures)
 
 pub refusal-at-spec : {M : Type 1} → statement M

@@ -1,6 +1,6 @@
 -- `line::Line::refusal_for` meets its contract: what it calls says it. Assumes nothing.
 use borrow.Author.Needs.{needs}
-use Rattle.line.specs.Lines.{refusalFor}
+use Rattle.line.specs.Lines.{lineRefusalFor}
 use Rattle.line.proofs.line.Line.refusal_for.Statement.{statement}
 use Rattle.line.proofs.line.Line.refusal_for.Tie as tie
 
@@ -14,7 +14,7 @@ first-requires : tie.Need-first-requires
 first-requires c κs = search needs
 
 returns : tie.Need-returns
-unfolding refusalFor
+unfolding lineRefusalFor
 returns c = simp (c .before .before .refusal .ensures, c .before .colour-refusal .ensures, c .first .ensures)
 
 pub refusal-for-spec : {M : Type 1} → statement M

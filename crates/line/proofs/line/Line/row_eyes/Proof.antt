@@ -9,8 +9,8 @@ my-requires c κs = search needs
 op-requires : tie.Need-op-requires
 op-requires c κs = search needs
 
-of-requires : tie.Need-of-requires
-of-requires c κs = search needs
+or-overlined-requires : tie.Need-or-overlined-requires
+or-overlined-requires c κs = search needs
 
 row-eyes-requires : tie.Need-row-eyes-requires
 row-eyes-requires c κs = search needs
@@ -18,17 +18,17 @@ row-eyes-requires c κs = search needs
 rows-refusal-requires : tie.Need-rows-refusal-requires
 rows-refusal-requires c κs = search needs
 
-of-requires-2 : tie.Need-of-requires-2
-of-requires-2 c κs = search needs
+of-requires : tie.Need-of-requires
+of-requires c κs = search needs
 
 returns : tie.Need-returns
 returns c = simp (
   c .before .before .before .before .before .my .ensures,
   c .before .before .before .before .op .ensures,
-  c .before .before .before .of .ensures,
+  c .before .before .before .or-overlined .ensures,
   c .before .before .row-eyes .ensures,
   c .before .rows-refusal .ensures,
-  c .of2 .ensures,
+  c .of .ensures,
 )
 
 pub row-eyes-spec : {M : Type 1} → statement M
@@ -37,8 +37,8 @@ row-eyes-spec =
     (tie.spec
     my-requires
     op-requires
-    of-requires
+    or-overlined-requires
     row-eyes-requires
     rows-refusal-requires
-    of-requires-2
+    of-requires
     returns)

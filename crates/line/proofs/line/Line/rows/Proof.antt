@@ -1,7 +1,7 @@
 -- `line::Line::rows` meets its contract: what it calls says it. Assumes nothing.
 use borrow.Author.Needs.{needs}
-use Rattle.line.specs.Lines.{rowsOf}
-use Rattle.line.proofs.Lines.{listed}
+use Rattle.line.specs.Lines.{lineRowsAt}
+use Rattle.line.proofs.Lines.{windows-listed}
 use Rattle.line.proofs.line.Line.rows.Statement.{statement}
 use Rattle.line.proofs.line.Line.rows.Tie as tie
 
@@ -20,7 +20,7 @@ same-length c = search needs
 returns : tie.Need-returns
 returns c =
     let a = c .before .before .before .before .before .before .before .args in
-    listed (a .self) _ _ (rowsOf (a .self) (a .colour) (a .kind)) _ _ _ _ (c .before .before .before .before .before .rows-refusal .ensures)
+    windows-listed (a .self) _ _ (lineRowsAt (a .self) (a .colour) (a .kind)) _ _ _ _ (c .before .before .before .before .before .rows-refusal .ensures)
     (c .before .before .before .before .starts-of .ensures) (c .before .before .list .ensures)
 
 pub rows-spec : {M : Type 1} → statement M

@@ -1,7 +1,7 @@
 -- `line::Line::rows_on` meets its contract: what it calls says it. Assumes nothing.
 use borrow.Author.Needs.{needs}
-use Rattle.line.specs.Lines.{rowsOn}
-use Rattle.line.proofs.Lines.{listed}
+use Rattle.line.specs.Lines.{lineRowsOn}
+use Rattle.line.proofs.Lines.{windows-listed}
 use Rattle.line.proofs.line.Line.rows_on.Statement.{statement}
 use Rattle.line.proofs.line.Line.rows_on.Tie as tie
 
@@ -20,7 +20,7 @@ same-length c = search needs
 returns : tie.Need-returns
 returns c =
     let a = c .before .before .before .before .before .before .before .args in
-    listed (a .self) _ _ (rowsOn (a .self) (a .i) (a .colour) (a .kind)) _ _ _ _
+    windows-listed (a .self) _ _ (lineRowsOn (a .self) (a .i) (a .colour) (a .kind)) _ _ _ _
     (c .before .before .before .before .before .rows-on-refusal .ensures) (c .before .before .before .before .starts-on .ensures)
     (c .before .before .list .ensures)
 

@@ -1,6 +1,6 @@
 -- `line::Line::rows_on_refusal` meets its contract: what it calls says it. Assumes nothing.
 use borrow.Author.Needs.{needs}
-use Rattle.line.specs.Lines.{rowsOnRefusal}
+use Rattle.line.specs.Lines.{lineRowsOnRefusal}
 use Rattle.line.proofs.line.Line.rows_on_refusal.Statement.{statement}
 use Rattle.line.proofs.line.Line.rows_on_refusal.Tie as tie
 
@@ -14,7 +14,7 @@ first-requires : tie.Need-first-requires
 first-requires c κs = search needs
 
 returns : tie.Need-returns
-unfolding rowsOnRefusal
+unfolding lineRowsOnRefusal
 returns c = simp (c .before .before .rows-refusal .ensures, c .before .cell-refusal .ensures, c .first .ensures)
 
 pub rows-on-refusal-spec : {M : Type 1} → statement M

@@ -1,7 +1,7 @@
 -- `line::Line::segments` meets its contract: what it calls says it. Assumes nothing.
 use borrow.Author.Needs.{needs}
 use Rattle.rules.specs.Line.{inside}
-use Rattle.line.proofs.Lines.{listed}
+use Rattle.line.proofs.Lines.{windows-listed}
 use Rattle.line.proofs.line.Line.segments.Statement.{statement}
 use Rattle.line.proofs.line.Line.segments.Tie as tie
 
@@ -20,7 +20,7 @@ same-length c = search needs
 returns : tie.Need-returns
 returns c =
     let a = c .before .before .before .before .before .before .before .args in
-    listed (a .self) _ _ (inside (a .self .size)) _ _ _ _ (c .before .before .before .before .before .refusal .ensures)
+    windows-listed (a .self) _ _ (inside (a .self .size)) _ _ _ _ (c .before .before .before .before .before .refusal .ensures)
     (c .before .before .before .before .starts .ensures) (c .before .before .list .ensures)
 
 pub segments-spec : {M : Type 1} → statement M

@@ -9,8 +9,8 @@ my-requires c κs = search needs
 op-requires : tie.Need-op-requires
 op-requires c κs = search needs
 
-of-requires : tie.Need-of-requires
-of-requires c κs = search needs
+or-overlined-requires : tie.Need-or-overlined-requires
+or-overlined-requires c κs = search needs
 
 row-starts-requires : tie.Need-row-starts-requires
 row-starts-requires c κs = search needs
@@ -19,10 +19,10 @@ returns : tie.Need-returns
 returns c = simp (
   c .before .before .before .my .ensures,
   c .before .before .op .ensures,
-  c .before .of .ensures,
+  c .before .or-overlined .ensures,
   c .row-starts .ensures,
 )
 
 pub starts-of-spec : {M : Type 1} → statement M
 starts-of-spec =
-    tie.close (tie.spec my-requires op-requires of-requires row-starts-requires returns)
+    tie.close (tie.spec my-requires op-requires or-overlined-requires row-starts-requires returns)

@@ -9,8 +9,8 @@ my-requires c κs = search needs
 op-requires : tie.Need-op-requires
 op-requires c κs = search needs
 
-of-requires : tie.Need-of-requires
-of-requires c κs = search needs
+or-overlined-requires : tie.Need-or-overlined-requires
+or-overlined-requires c κs = search needs
 
 row-starts-on-requires : tie.Need-row-starts-on-requires
 row-starts-on-requires c κs = search needs
@@ -19,10 +19,10 @@ returns : tie.Need-returns
 returns c = simp (
   c .before .before .before .my .ensures,
   c .before .before .op .ensures,
-  c .before .of .ensures,
+  c .before .or-overlined .ensures,
   c .row-starts-on .ensures,
 )
 
 pub starts-on-spec : {M : Type 1} → statement M
 starts-on-spec =
-    tie.close (tie.spec my-requires op-requires of-requires row-starts-on-requires returns)
+    tie.close (tie.spec my-requires op-requires or-overlined-requires row-starts-on-requires returns)

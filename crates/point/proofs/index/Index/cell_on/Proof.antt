@@ -8,7 +8,7 @@ use mir.Val.{toZ}
 use borrow.Author.Needs.{needs}
 use Rattle.rules.specs.Point.{lineSize}
 use Rattle.rules.proofs.Address.{size-le}
-use Rattle.point.proofs.Steps.{past-start, cell-at, past-end, cell-fits}
+use Rattle.point.proofs.Steps.{past-start, step-cell, past-end, cell-fits}
 use Rattle.point.proofs.index.Index.cell_on.Statement.{statement}
 use Rattle.point.proofs.index.Index.cell_on.Tie as tie
 
@@ -38,7 +38,7 @@ returns-2 c =
     let e = toZ-ofZ (c .before .before .before .fits .j) in
     let s : toZ w16 (c .before .line-size .result) ≡ pos (lineSize (a .self .d) (a .self .i)) = toZ-pos w16
     (omega (arith, size-le (a .self .d) (a .self .i), c .before .line-size .ensures)) ∙ ap pos (c .before .line-size .ensures) in
-    simp e (cell-at (a .self) (a .j) (simp e at (c .before .before .if1 .left)) (simp (e, s) at (c .if2 .taken)))
+    simp e (step-cell (a .self) (a .j) (simp e at (c .before .before .if1 .left)) (simp (e, s) at (c .if2 .taken)))
 
 returns-3 : tie.Need-returns-3
 returns-3 c =

@@ -15,14 +15,14 @@ stones-of-requires c κs = search needs
 my-requires-2 : tie.Need-my-requires-2
 my-requires-2 c κs = search needs
 
-of-requires : tie.Need-of-requires
-of-requires c κs = search needs
+or-overlined-requires : tie.Need-or-overlined-requires
+or-overlined-requires c κs = search needs
 
 unfilled-of-requires : tie.Need-unfilled-of-requires
 unfilled-of-requires c κs = search needs
 
-of-requires-2 : tie.Need-of-requires-2
-of-requires-2 c κs = search needs
+of-requires : tie.Need-of-requires
+of-requires c κs = search needs
 
 returns : tie.Need-returns
 returns c = simp (
@@ -30,9 +30,9 @@ returns c = simp (
   c .before .before .before .before .before .my .ensures,
   c .before .before .before .before .stones-of .ensures,
   c .before .before .before .my2 .ensures,
-  c .before .before .of .ensures,
+  c .before .before .or-overlined .ensures,
   c .before .unfilled-of .ensures,
-  c .of2 .ensures,
+  c .of .ensures,
 )
 
 pub new-spec : {M : Type 1} → statement M
@@ -43,7 +43,7 @@ new-spec =
     my-requires
     stones-of-requires
     my-requires-2
-    of-requires
+    or-overlined-requires
     unfilled-of-requires
-    of-requires-2
+    of-requires
     returns)

@@ -3,7 +3,7 @@ use mathlib.Core.Path.{ap}
 use lib.Dec.{eqb}
 use borrow.Author.Needs.{needs}
 use Rattle.rules.specs.Answers.{scoreAnswer}
-use Rattle.segment.specs.Segments.{own, other}
+use Rattle.segment.specs.Segments.{segmentOwn, segmentOther}
 use Rattle.segment.proofs.Segments.{carried}
 use Rattle.segment.proofs.segment.Segment.score.Statement.{statement}
 use Rattle.segment.proofs.segment.Segment.score.Tie as tie
@@ -32,7 +32,7 @@ returns c = simp (
   c .of .ensures,
 )
     (let a = c .before .before .before .before .before .args in
-    ap (scoreAnswer _) (carried (eqb (a .colour) 1) (own (a .self) (a .colour)) (other (a .self) (a .colour)) 1))
+    ap (scoreAnswer _) (carried (eqb (a .colour) 1) (segmentOwn (a .self) (a .colour)) (segmentOther (a .self) (a .colour)) 1))
 
 pub score-spec : {M : Type 1} → statement M
 score-spec =

@@ -1,21 +1,21 @@
--- `sweep::windows::rows_in` meets its contract, mask by mask. Assumes nothing.
+-- `sweep::windows::rows_along` meets its contract, mask by mask. Assumes nothing.
 use mathlib.Core.Path.{_≡_}
 use Prim.Native.Nat.{_≤_, _-_}
 use native.Mathlib.Omega.{arith}
 use Rattle.rules.specs.declared.RowKind.the-variants.{Two, Overlining}
 use Rattle.lent.specs.Lists.{zeros}
-use Rattle.grid.proofs.Filled.{filled}
-use Rattle.sweep.specs.Marks.{rowOf, marks, isMarked, Scored, rowFrom}
+use Rattle.sweep.specs.Marks.{rowMask, marks, isMarked, Scored, rowFrom}
 use Rattle.sweep.proofs.Marks.{as-marked, rows-start, rows-more, rows-end}
 use Rattle.sweep.proofs.Starts.{two-row, overlining-row, sword-rows}
+use Rattle.cells.proofs.Filled.{filled}
 use borrow.Author.Needs.{needs}
-use Rattle.sweep.proofs.windows.rows_in.Statement.{statement}
-use Rattle.sweep.proofs.windows.rows_in.Tie as tie
+use Rattle.sweep.proofs.windows.rows_along.Statement.{statement}
+use Rattle.sweep.proofs.windows.rows_along.Tie as tie
 
 abbrev Inv-loop : tie.InvT-loop
 Inv-loop blacks whites whole d w swords twos₀ overs₀ i₀ twos overs i =
-    (5 ≤ i) × (i ≤ 21) × (twos ≡ filled 26 (rowOf (rowFrom (isMarked blacks) (isMarked whites) Two d)) i)
-    × (overs ≡ filled 26 (rowOf (rowFrom (isMarked blacks) (isMarked whites) Overlining d)) i)
+    (5 ≤ i) × (i ≤ 21) × (twos ≡ filled 26 (rowMask (rowFrom (isMarked blacks) (isMarked whites) Two d)) i)
+    × (overs ≡ filled 26 (rowMask (rowFrom (isMarked blacks) (isMarked whites) Overlining d)) i)
     × Scored marks (isMarked blacks) (isMarked whites) d (w .twos) (w .threes) (w .fours)
 
 abbrev μ-loop : tie.MeasureT-loop
@@ -85,8 +85,8 @@ returns c =
       overs = rows-end _ i (omega arith) (omega arith) overs;
     }
 
-pub rows-in-spec : {M : Type 1} → statement M
-rows-in-spec =
+pub rows-along-spec : {M : Type 1} → statement M
+rows-along-spec =
     tie.close
     (tie.spec
     Inv-loop
