@@ -2,7 +2,7 @@
 // must be filled.
 use super::board::Board;
 ghost use mathlib.Core.Path.{_≡_};
-ghost use Rattle.board.specs.Answers.{linesAnswer, startsAnswer};
+ghost use Rattle.board.specs.Answers.{answerWith, startsAnswer};
 
 // 0 and a board, or the number of the refusal and the empty board. (The prover's walk does not cover an enum that holds an array.)
 pub struct BoardAnswer {
@@ -17,18 +17,16 @@ pub struct StartsAnswer {
 }
 
 impl BoardAnswer {
-    pub(crate) fn of(refused: u8, lines: [u16; 144]) -> BoardAnswer
-        ensures { λ r. ⌜ r ≡ linesAnswer refused lines ⌝ }
+    pub(crate) fn of(refused: u8, board: Board) -> BoardAnswer
+        ensures { λ r. ⌜ r ≡ answerWith refused board ⌝ }
     {
         if refused == 0 {
-            return BoardAnswer {
-                refused: 0,
-                board: Board { lines },
-            };
+            return BoardAnswer { refused: 0, board };
         }
+        let empty = Board::new();
         BoardAnswer {
             refused,
-            board: Board { lines: [0u16; 144] },
+            board: empty,
         }
     }
 }

@@ -1,14 +1,15 @@
 // A board by value: its 72 lines as 144 masks, entry k the black mask of the line of key k and entry 72 + k its white mask.
 use super::answer::BoardAnswer;
 use super::answer::StartsAnswer;
-use super::build::cells_refusal;
-use super::build::codes_refusal;
-use super::build::put_all;
-use super::build::turned_cells;
-use grid::cell_of;
-use grid::cells_of;
-use grid::is_sound;
+use cells::CellsAnswer;
+use cells::cells_refusal;
+use cells::moves_cells;
+use cells::stones_cells;
+use cells::turned_cells;
+use grid::cell_on;
+use grid::cells_on;
 use grid::lines_of;
+use grid::lines_refusal;
 use grid::put_on;
 use grid::remove_on;
 use lent::write_out;
@@ -21,20 +22,18 @@ use rules::StoneAnswer;
 use rules::colour_refusal;
 use rules::first;
 use rules::kind_refusal;
-use rules::unless;
 ghost use mathlib.Core.Path.{_≡_};
 ghost use lib.Dec.{eqb};
 ghost use lib.ListN.{getD};
 ghost use Rattle.rules.specs.Numbers.{playerOf, kindOf};
-ghost use Rattle.rules.specs.Refusals.{first};
+ghost use Rattle.rules.specs.Refusals.{first, viewRefusal};
 ghost use Rattle.rules.specs.Answers.{numberAnswer, stoneAnswer};
-ghost use Rattle.rules.specs.Grid.{put, remove, startMasks, rowsThrough};
+ghost use Rattle.rules.specs.Grid.{startMasks, rowsThrough};
 ghost use Rattle.rules.specs.Views.{turnCells};
 ghost use Rattle.lent.specs.Lists.{zeros, listRefusal, listOut};
-ghost use Rattle.point.specs.Points.{viewRefusal};
-ghost use Rattle.board.specs.Answers.{boardAnswer, startsAnswer};
-ghost use Rattle.board.specs.Boards.{cells, boardOf, boardRefusal, refusalAt, refusalFor, rowsOnRefusal};
-ghost use Rattle.board.specs.Boards.{cellsRefusal, codesRefusal, movesCells, stonesCells};
+ghost use Rattle.cells.specs.Cells.{cellsRefusal, codesRefusal, movesCells, stonesCells};
+ghost use Rattle.board.specs.Answers.{boardAnswer, putAnswer, removeAnswer, startsAnswer};
+ghost use Rattle.board.specs.Boards.{boardFrom, withLines, cells, boardOf, boardRefusal, refusalAt, refusalFor, rowsOnRefusal};
 
 pub struct Board {
     pub lines: [u16; 144],
@@ -45,23 +44,47 @@ impl Board {
     pub fn new() -> Board
         ensures { λ r. ⌜ r ≡ boardOf (zeros 225) ⌝ }
     {
-        Board { lines: [0u16; 144] }
+        Board::from_lines([0u16; 144])
+    }
+
+    // The board that has these lines: the one place where a board is made.
+    pub(crate) fn from_lines(lines: [u16; 144]) -> Board
+        ensures { λ r. ⌜ r ≡ boardFrom lines ⌝ }
+    {
+        Board { lines }
+    }
+
+    // The board with other lines in place of its own.
+    pub(crate) fn with_lines(mut self, lines: [u16; 144]) -> Board
+        ensures { λ r. ⌜ r ≡ withLines self lines ⌝ }
+    {
+        self.lines = lines;
+        self
     }
 
     // The board of 225 cell bytes.
     pub fn from_cells(bytes: &[u8]) -> BoardAnswer
         ensures { λ r. ⌜ r ≡ boardAnswer (cellsRefusal (now (bytes .entry))) (now (bytes .entry)) ⌝ }
     {
-        BoardAnswer::of(cells_refusal(bytes), lines_of(bytes))
+        BoardAnswer::of(cells_refusal(bytes), Board::from_lines(lines_of(bytes)))
+    }
+
+    // The board of cells that were read, or the refusal of the reading.
+    pub fn read(answer: CellsAnswer) -> BoardAnswer
+        ensures { λ r. ⌜ r ≡ boardAnswer (first (answer .refused) (cellsRefusal (answer .cells))) (answer .cells) ⌝ }
+    {
+        let bytes = answer.cells;
+        BoardAnswer::of(
+            first(answer.refused, cells_refusal(&bytes)),
+            Board::from_lines(lines_of(&bytes)),
+        )
     }
 
     // The board after moves that alternate from Black's; a point met again is overwritten.
     pub fn from_moves(moves: &[u8]) -> BoardAnswer
         ensures { λ r. ⌜ r ≡ boardAnswer (codesRefusal (now (moves .entry))) (movesCells (now (moves .entry))) ⌝ }
     {
-        let mut lines = [0u16; 144];
-        put_all(&mut lines, Player::Black, moves, true);
-        BoardAnswer::of(codes_refusal(moves), lines)
+        Board::read(moves_cells(moves))
     }
 
     // The board with Black's stones put, then White's.
@@ -69,41 +92,38 @@ impl Board {
         ensures { λ r. ⌜ r ≡ boardAnswer (first (codesRefusal (now (blacks .entry))) (codesRefusal (now (whites .entry))))
             (stonesCells (now (blacks .entry)) (now (whites .entry))) ⌝ }
     {
-        let mut lines = [0u16; 144];
-        put_all(&mut lines, Player::Black, blacks, false);
-        put_all(&mut lines, Player::White, whites, false);
-        BoardAnswer::of(first(codes_refusal(blacks), codes_refusal(whites)), lines)
+        Board::read(stones_cells(blacks, whites))
     }
 
     // The board with a stone of the colour at a point, in place of what stood there.
-    pub fn put(self, colour: u8, code: u8) -> BoardAnswer
-        ensures { λ r. ⌜ r ≡ boardAnswer (refusalFor self code colour) (put (playerOf colour) (cells self) code) ⌝ }
+    pub fn put(self, code: u8, colour: u8) -> BoardAnswer
+        ensures { λ r. ⌜ r ≡ putAnswer self code colour ⌝ }
     {
         let mut lines = self.lines;
         let refused = self.refusal_for(code, colour);
-        put_on(&mut lines, Player::of(colour), code);
-        BoardAnswer::of(refused, lines)
+        put_on(&mut lines, code, Player::or_white(colour));
+        BoardAnswer::of(refused, self.with_lines(lines))
     }
 
     // The board with a point made empty.
     pub fn remove(self, code: u8) -> BoardAnswer
-        ensures { λ r. ⌜ r ≡ boardAnswer (refusalAt self code) (remove (cells self) code) ⌝ }
+        ensures { λ r. ⌜ r ≡ removeAnswer self code ⌝ }
     {
         let mut lines = self.lines;
         let refused = self.refusal_at(code);
         remove_on(&mut lines, code);
-        BoardAnswer::of(refused, lines)
+        BoardAnswer::of(refused, self.with_lines(lines))
     }
 
     // The same by the names that board.rs gives to what leaves the first board as it is: by value it always is.
-    pub fn with_stone(self, colour: u8, code: u8) -> BoardAnswer
-        ensures { λ r. ⌜ r ≡ boardAnswer (refusalFor self code colour) (put (playerOf colour) (cells self) code) ⌝ }
+    pub fn with_stone(self, code: u8, colour: u8) -> BoardAnswer
+        ensures { λ r. ⌜ r ≡ putAnswer self code colour ⌝ }
     {
-        self.put(colour, code)
+        self.put(code, colour)
     }
 
     pub fn without_stone(self, code: u8) -> BoardAnswer
-        ensures { λ r. ⌜ r ≡ boardAnswer (refusalAt self code) (remove (cells self) code) ⌝ }
+        ensures { λ r. ⌜ r ≡ removeAnswer self code ⌝ }
     {
         self.remove(code)
     }
@@ -113,7 +133,7 @@ impl Board {
         ensures { λ r. ⌜ r ≡ stoneAnswer (refusalAt self code) (eqb (getD (cells self) code 0) 1) (eqb (getD (cells self) code 0) 2) ⌝ }
     {
         let lines = self.lines;
-        let value = cell_of(&lines, code);
+        let value = cell_on(&lines, code);
         StoneAnswer::of(self.refusal_at(code), value == 1, value == 2)
     }
 
@@ -123,7 +143,7 @@ impl Board {
             × (now (out .exit) ≡ listOut (boardRefusal self) (now (out .entry)) (cells self)) ⌝ }
     {
         let lines = self.lines;
-        let bytes = cells_of(&lines);
+        let bytes = cells_on(&lines);
         let refused = write_out(self.refusal(), out, &bytes, 225);
         NumberAnswer::of(refused, 225)
     }
@@ -133,11 +153,11 @@ impl Board {
         ensures { λ r. ⌜ r ≡ boardAnswer (first (boardRefusal self) (viewRefusal view)) (turnCells view (cells self)) ⌝ }
     {
         let lines = self.lines;
-        let bytes = cells_of(&lines);
-        let turned_to = turned_cells(view, &bytes);
+        let bytes = cells_on(&lines);
+        let turned_to = turned_cells(&bytes, view);
         BoardAnswer::of(
             first(self.refusal(), view_refusal(view)),
-            lines_of(&turned_to),
+            Board::from_lines(lines_of(&turned_to)),
         )
     }
 
@@ -147,7 +167,12 @@ impl Board {
             (startMasks (rowsThrough (playerOf colour) (kindOf kind) (cells self) code)) ⌝ }
     {
         let lines = self.lines;
-        let starts = grid::row_starts_on(&lines, code, Player::of(colour), RowKind::of(kind));
+        let starts = grid::row_starts_on(
+            &lines,
+            code,
+            Player::or_white(colour),
+            RowKind::or_overlined(kind),
+        );
         StartsAnswer::of(self.rows_on_refusal(code, colour, kind), starts)
     }
 
@@ -156,7 +181,7 @@ impl Board {
         ensures { λ r. ⌜ r ≡ boardRefusal self ⌝ }
     {
         let lines = self.lines;
-        unless(is_sound(&lines), 9)
+        lines_refusal(&lines)
     }
 
     // .. then 8 for a code over 224.
@@ -165,6 +190,7 @@ impl Board {
     {
         first(self.refusal(), code_refusal(code))
     }
+
     // .. then 12 for a number that is no colour's.
     pub fn refusal_for(self, code: u8, colour: u8) -> u8
         ensures { λ r. ⌜ r ≡ refusalFor self code colour ⌝ }

@@ -2,10 +2,7 @@
 // board are in `lists`, copies of its lines in `lines`.
 mod answer;
 mod board;
-mod build;
 
 pub use answer::BoardAnswer;
 pub use answer::StartsAnswer;
 pub use board::Board;
-pub use build::cells_refusal;
-pub use build::codes_refusal;

@@ -3,7 +3,7 @@ use mathlib.Core.Path.{_≡_, refl, ap, ap₂, sym, _∙_}
 use mathlib.Core.Bool.{Bool, true, false, _&&_, cond}
 use mathlib.Core.Logic.{_⊎_, inl, inr}
 use mathlib.Core.List.{List}
-use Prim.Native.Nat.{ℕ, _+_, _%_, _^_, _≤_, _<_}
+use Prim.Native.Nat.{ℕ, _+_, _%_, _<_}
 use native.Mathlib.Omega.{arith}
 use lib.Dec.{T, eqb, ltb}
 use lib.ListN.{length, getD}
@@ -22,17 +22,8 @@ use Rattle.rules.proofs.Address.{point-lt, line-there, cell-there, keyDir-lt, k
 use Rattle.rules.proofs.Rows.{stone-in, stone-out, stone-here}
 use Rattle.point.specs.Places.{hasPlace}
 use Rattle.grid.specs.Lines.{ownerOf, maskOn, shows, entryOf, linesOf, cellsOf, Sound}
-use Rattle.grid.proofs.Lines.{line-at, on-key, length-linesOf, sound-lines, shows-sound, cell-shown, cell-of}
-
--- what section 1 asks of a board's lines (their sizes are those of their keys): "no bit outside a line, no cell with both colours, and
--- every stored line through a point agrees on that point"
-pub record Agreed (l : List ℕ) : Type 0 where
-  pub long : length l ≡ 144
-  pub small : (e : ℕ) → e < 144 → getD l e 0 < 2 ^ 16
-  pub outside : (r : Player) (k j : ℕ) → k < 72 → keySize k ≤ j → shows r l k j ≡ false
-  pub one : (k j : ℕ) → k < 72 → (shows Black l k j && shows White l k j) ≡ false
-  pub agree : (r : Player) (c d p : ℕ) → c < 4 → d < 4 → T (hasPlace c p) → T (hasPlace d p)
-      → shows r l (keyAt c p) (cellNo c p) ≡ shows r l (keyAt d p) (cellNo d p)
+use Rattle.grid.specs.Agreed.{Agreed}
+use Rattle.grid.proofs.Lines.{line-at, on-key, length-linesOf, sound-lines, shows-sound, cell-shown, cell-on}
 
 -- ---- sound lines agree
 
@@ -108,10 +99,10 @@ module _ (l : List ℕ) (a : Agreed l) where
   column : (r : Player) (p : ℕ) → p < 225 → shows r l (keyAt 0 p) (cellNo 0 p) ≡ eqb (getD (cellsOf l) p 0) (colourNo r)
   unfolding keyAt keyOf lineNo cellNo
   column Black p hp =
-      sym (ap (λ (x : ℕ). eqb x 1) (sym (cell-of l p hp) ∙ cell-shown l p hp)
+      sym (ap (λ (x : ℕ). eqb x 1) (sym (cell-on l p hp) ∙ cell-shown l p hp)
       ∙ told-black (shows Black l (xOf p) (yOf p)) (shows White l (xOf p) (yOf p)))
   column White p hp =
-      sym (ap (λ (x : ℕ). eqb x 2) (sym (cell-of l p hp) ∙ cell-shown l p hp)
+      sym (ap (λ (x : ℕ). eqb x 2) (sym (cell-on l p hp) ∙ cell-shown l p hp)
       ∙ told-white (shows Black l (xOf p) (yOf p)) (shows White l (xOf p) (yOf p)) (a .one (xOf p) (yOf p) (omega arith)))
 
   upright : (p : ℕ) → p < 225 → T (hasPlace 0 p)

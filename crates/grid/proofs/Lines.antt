@@ -31,6 +31,8 @@ use Rattle.lent.specs.Lists.{zeros}
 use Rattle.lent.proofs.Laws.{length-zeros, zeros-at}
 use Rattle.point.specs.Places.{hasPlace}
 use Rattle.point.proofs.Stored.{has-point, place-key-lt, place-key-dir, place-key-no}
+use Rattle.cells.specs.Cells.{Cells}
+use Rattle.cells.proofs.Given.{cells-set, cells-zeros, colour-small, empty-value}
 use Rattle.grid.specs.Lines.{entryNo, ownerOf, maskOn, shows, entryOf, linesOf, cellOf, cellsOf, Sound}
 use Rattle.grid.specs.Lines.{writeLine, writeIn, writeOn, playLines}
 
@@ -282,11 +284,6 @@ lines-cong a b h = lines-same a b (λ r p hp. ap (λ (x : ℕ). eqb x (colourNo 
 
 -- ---- the cells are read back
 
--- 225 cells of 0, 1 or 2
-pub record Cells (cells : List ℕ) : Type 0 where
-  pub long : length cells ≡ 225
-  pub small : (p : ℕ) → p < 225 → getD cells p 0 ≤ 2
-
 three : (x : ℕ) → x ≤ 2 → cond (eqb x 1) 1 (cond (eqb x 2) 2 0) ≡ x
 three zero h = refl
 three (suc zero) h = refl
@@ -328,9 +325,9 @@ pub length-cellsOf : (l : List ℕ) → length (cellsOf l) ≡ 225
 unfolding cellsOf
 length-cellsOf l = length-tab 225 (cellOf l)
 
-pub cell-of : (l : List ℕ) (p : ℕ) → p < 225 → cellOf l p ≡ getD (cellsOf l) p 0
+pub cell-on : (l : List ℕ) (p : ℕ) → p < 225 → cellOf l p ≡ getD (cellsOf l) p 0
 unfolding cellsOf
-cell-of l p hp = sym (getD-tab 225 (cellOf l) p hp)
+cell-on l p hp = sym (getD-tab 225 (cellOf l) p hp)
 
 -- what is read is cells, whatever the lines
 pub cells-cellsOf : (l : List ℕ) → Cells (cellsOf l)
@@ -338,25 +335,12 @@ unfolding cellOf
 cells-cellsOf l =
     record {
       long = length-cellsOf l;
-      small = λ p hp. rw (sym (cell-of l p hp)) (small-cond (bit (getD l (xOf p) 0) (yOf p)) (bit (getD l (72 + xOf p) 0) (yOf p)));
+      small = λ p hp. rw (sym (cell-on l p hp)) (small-cond (bit (getD l (xOf p) 0) (yOf p)) (bit (getD l (72 + xOf p) 0) (yOf p)));
     }
 
 -- a cell that is read is empty where it is 0
-none-zero : (v : ℕ) → v ≤ 2 → eqb v 0 ≡ isEmpty v
-none-zero zero h = refl
-none-zero (suc zero) h = refl
-none-zero (suc (suc zero)) h = refl
-none-zero (suc (suc (suc v))) h = absurd (omega arith)
-
 pub empty-cell : (l : List ℕ) (p : ℕ) → p < 225 → eqb (getD (cellsOf l) p 0) 0 ≡ isEmpty (getD (cellsOf l) p 0)
-empty-cell l p hp = none-zero (getD (cellsOf l) p 0) (cells-cellsOf l .small p hp)
-
-pub cells-set : (cells : List ℕ) (p v : ℕ) → Cells cells → v ≤ 2 → Cells (set cells p v)
-cells-set cells p v ok h = record { long = length-set cells p v ∙ ok .long; small = λ q hq. go q hq (ℕ-discrete q p) }
-  where
-    go : (q : ℕ) → q < 225 → Dec (q ≡ p) → getD (set cells p v) q 0 ≤ 2
-    go q hq (yes e) = rw (e, getD-set-same cells p v 0 (omega (arith, e, ok .long))) h
-    go q hq (no e) = rw (getD-set-other cells p q v 0 e) (ok .small q hq)
+empty-cell l p hp = empty-value (cellsOf l) (cells-cellsOf l) p hp
 
 -- ---- sound lines
 
@@ -394,9 +378,6 @@ sound-write l p v s h =
 
 -- ---- the empty board
 
-pub cells-zeros : Cells (zeros 225)
-cells-zeros = record { long = length-zeros 225; small = λ p hp. rw (zeros-at 225 p) (omega arith) }
-
 pub lines-zeros : zeros 144 ≡ linesOf (zeros 225)
 unfolding linesOf entryOf
 lines-zeros =
@@ -413,16 +394,6 @@ pub sound-zeros : Sound (zeros 144)
 sound-zeros = subst Sound (sym lines-zeros) (sound-linesOf (zeros 225) cells-zeros)
 
 -- ---- any sequence of puts and removes acts on the cells as the changes do, which is as on a plain map (rules, play-map)
-
-pub colour-small : (r : Player) → colourNo r ≤ 2
-colour-small Black = omega arith
-colour-small White = omega arith
-
-pub play-ok : (changes : List Change) (cells : List ℕ) → Cells cells → Cells (play changes cells)
-unfolding play
-play-ok [] cells ok = ok
-play-ok (Put r p ∷ changes) cells ok = play-ok changes (set cells p (colourNo r)) (cells-set cells p (colourNo r) ok (colour-small r))
-play-ok (Remove p ∷ changes) cells ok = play-ok changes (set cells p 0) (cells-set cells p 0 ok (omega arith))
 
 pub play-sound : (changes : List Change) (l : List ℕ) → Sound l → Sound (playLines changes l)
 unfolding playLines
@@ -443,7 +414,7 @@ play-cells (Remove p ∷ changes) l s =
 pub play-as-map : (changes : List Change) (l : List ℕ) → Sound l → (q : ℕ) → q < 225
     → cellOf (playLines changes l) q ≡ playMap changes (λ p. getD (cellsOf l) p 0) q
 play-as-map changes l s q h =
-    cell-of (playLines changes l) q h ∙ ap (λ (x : List ℕ). getD x q 0) (play-cells changes l s)
+    cell-on (playLines changes l) q h ∙ ap (λ (x : List ℕ). getD x q 0) (play-cells changes l s)
     ∙ play-map changes (cellsOf l) (length-cellsOf l) q h
 
 -- the lines after a sequence are those of the cells after it

@@ -26,7 +26,8 @@ use Rattle.point.specs.Places.{hasPlace}
 use Rattle.grid.specs.Lines.{entryNo, linesOf, cellsOf, Sound, writeLine, writeIn, writeOn}
 use Rattle.grid.specs.Lines.{markLine, markIn, markOn, addOn, liftOn}
 use Rattle.grid.proofs.Lines.{line-at, write-linesOf, mask-entry, mask-linesOf, shows-linesOf, lines-same, sound-lines}
-use Rattle.grid.proofs.Lines.{length-cellsOf, cells-write, sound-write, colour-small, trial}
+use Rattle.grid.proofs.Lines.{length-cellsOf, cells-write, sound-write, trial}
+use Rattle.cells.proofs.Given.{colour-small}
 
 -- a bit set to what it was leaves the mask
 mask-kept : (f : Stones) (j : ℕ) (b : Bool) → f j ≡ b → maskOf 16 (placed f j b) ≡ maskOf 16 f
@@ -92,16 +93,16 @@ module _ (p : ℕ) (r : Player) where
       same (inr u) = rw u
 
   module _ (v : ℕ) (off : eqb v (colourNo (opponentOf r)) ≡ false) where
-    mark-in : (l : List ℕ) (d : ℕ) → d < 4 → Clear l → markIn l d p r (eqb v (colourNo r)) ≡ writeIn l d p v
+    mark-along : (l : List ℕ) (d : ℕ) → d < 4 → Clear l → markIn l d p r (eqb v (colourNo r)) ≡ writeIn l d p v
     unfolding other Clear markIn writeIn
-    mark-in l d hd c = go (decide (hasPlace d p))
+    mark-along l d hd c = go (decide (hasPlace d p))
       where
         go : (hasPlace d p ≡ true) ⊎ (hasPlace d p ≡ false) → markIn l d p r (eqb v (colourNo r)) ≡ writeIn l d p v
         go (inl u) = rw u (mark-line r l (keyAt d p) (cellNo d p) v (rw off (c d hd (true-T u))))
         go (inr u) = rw u
 
     step : (l m : List ℕ) (d : ℕ) → d < 4 → Clear l → l ≡ m → markIn l d p r (eqb v (colourNo r)) ≡ writeIn m d p v
-    step l m d hd c e = mark-in l d hd c ∙ ap (λ (x : List ℕ). writeIn x d p v) e
+    step l m d hd c e = mark-along l d hd c ∙ ap (λ (x : List ℕ). writeIn x d p v) e
 
     mark-on : (l : List ℕ) → Clear l → markOn l p r (eqb v (colourNo r)) ≡ writeOn l p v
     unfolding markOn writeOn

@@ -55,10 +55,10 @@ shown-rows r k l p d j s th =
     (shows-sound (opponentOf r) l (keyAt d p) s (th .key))
     ∙ ap₂ (λ (x y : ℕ). rowOn r k (cellsOf l) x y j) (th .dir) (th .no)
 
-pub starts-in : (r : Player) (k : RowKind) (l : List ℕ) (p d : ℕ) → Sound l → d < 4 → p < 225
+pub starts-along : (r : Player) (k : RowKind) (l : List ℕ) (p d : ℕ) → Sound l → d < 4 → p < 225
     → startsIn l p r k d ≡ maskOf 16 (rowsThrough r k (cellsOf l) p d)
 unfolding startsIn
-starts-in r k l p d s hd hp = go (decide (hasPlace d p))
+starts-along r k l p d s hd hp = go (decide (hasPlace d p))
   where
     go : (hasPlace d p ≡ true) ⊎ (hasPlace d p ≡ false) → startsIn l p r k d ≡ maskOf 16 (rowsThrough r k (cellsOf l) p d)
     go (inl t) =
@@ -70,13 +70,13 @@ starts-in r k l p d s hd hp = go (decide (hasPlace d p))
 pub starts-masks : (r : Player) (k : RowKind) (l : List ℕ) (p : ℕ) → Sound l → p < 225
     → startsOn l p r k ≡ startMasks (rowsThrough r k (cellsOf l) p)
 unfolding startsOn startMasks
-starts-masks r k l p s hp = tab-cong 4 _ _ (λ d hd. starts-in r k l p d s hd hp)
+starts-masks r k l p s hp = tab-cong 4 _ _ (λ d hd. starts-along r k l p d s hd hp)
 
 -- its bits are the tests of the rules
 pub starts-bits : (r : Player) (k : RowKind) (l : List ℕ) (p d : ℕ) → Sound l → d < 4 → p < 225
     → bit (startsIn l p r k d) ≡ rowsThrough r k (cellsOf l) p d
 starts-bits r k l p d s hd hp =
-    ap bit (starts-in r k l p d s hd hp)
+    ap bit (starts-along r k l p d s hd hp)
     ∙ bits-of 16 (rowsThrough r k (cellsOf l) p d)
     (λ j h. not-false (not-intro (rowsThrough r k (cellsOf l) p d j) (λ t.
     let b = start-lt r k (cellsOf l) p d j t in absurd (omega arith))))

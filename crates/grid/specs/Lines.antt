@@ -7,6 +7,7 @@ use Prim.Native.Nat.{ℕ, _+_, _%_}
 use lib.Dec.{eqb, ltb}
 use lib.ListN.{getD, set}
 use Rattle.rules.specs.Numbers.{colourNo, isBlack, opponentOf}
+use Rattle.rules.specs.Refusals.{unsound, unless}
 use Rattle.rules.specs.Tools.{tab}
 use Rattle.rules.specs.Bit.{bit, maskOf}
 use Rattle.rules.specs.Line.{Stones, rowAt, through}
@@ -61,7 +62,7 @@ unfoldable pub cellsOf : List ℕ → List ℕ
 cellsOf l = tab 225 (cellOf l)
 
 -- Lines are sound that are the lines of their own cells: no bit outside a line, no cell with both colours, and every stored line through a
--- point agrees on it (section 1's wording is proofs/Agreed.antt, and the two are shown to be one).
+-- point agrees on it (section 1's wording is Agreed.antt, and the two are shown to be one in proofs/).
 unfoldable pub Sound : List ℕ → Type 0
 Sound l = l ≡ linesOf (cellsOf l)
 
@@ -74,6 +75,10 @@ sameList (x ∷ l) (y ∷ m) = eqb x y && sameList l m
 
 unfoldable pub isSound : List ℕ → Bool
 isSound l = sameList l (linesOf (cellsOf l))
+
+-- "9 unsound board"
+unfoldable pub linesRefusal : List ℕ → ℕ
+linesRefusal l = unless (isSound l) unsound
 
 -- ---- put and remove: a cell's value v (0 empty, 1 black, 2 white) written on the lines
 

@@ -8,31 +8,32 @@ use rules::RowKind;
 ghost use mathlib.Core.Path.{_≡_};
 ghost use Rattle.grid.specs.Lines.{startsIn, startsOn};
 
-// Where the player's rows of the kind through a point start: vertical, horizontal, ascending, descending; 0 where no line is stored.
+// Where the player's rows of the kind through a point start: vertical, horizontal, ascending, descending; 0 where no line is stored,
+// as for every code over 224.
 pub fn row_starts_on(lines: &[u16; 144], code: u8, player: Player, kind: RowKind) -> [u16; 4]
     ensures { λ r. ⌜ r ≡ startsOn (now (lines .entry)) code player kind ⌝ }
 {
     [
-        starts_in(lines, 0, code, player, kind),
-        starts_in(lines, 1, code, player, kind),
-        starts_in(lines, 2, code, player, kind),
-        starts_in(lines, 3, code, player, kind),
+        starts_along(lines, 0, code, player, kind),
+        starts_along(lines, 1, code, player, kind),
+        starts_along(lines, 2, code, player, kind),
+        starts_along(lines, 3, code, player, kind),
     ]
 }
 
-// .. on the line in one direction.
-pub fn starts_in(lines: &[u16; 144], d: u8, code: u8, player: Player, kind: RowKind) -> u16
+// .. on the line in one direction; one over 3 is taken for Descending.
+pub fn starts_along(lines: &[u16; 144], d: u8, code: u8, player: Player, kind: RowKind) -> u16
     ensures { λ r. ⌜ r ≡ startsIn (now (lines .entry)) code player kind d ⌝ }
 {
     let a = address(d, code);
     if a.stored {
         return masks::row_starts_on(
-            mask_on(lines, player, a.key),
-            mask_on(lines, player.opponent(), a.key),
+            mask_on(lines, a.key, player),
+            mask_on(lines, a.key, player.opponent()),
             key_size(a.key),
+            a.cell,
             player.is_black(),
             kind,
-            a.cell,
         );
     }
     0

@@ -8,13 +8,13 @@ ghost use Rattle.rules.specs.Numbers.{colourNo};
 ghost use Rattle.grid.specs.Lines.{entryNo, maskOn, writeLine, writeIn, writeOn, markIn, addOn, liftOn};
 
 // A stone at a point, in place of what stood there. Nothing changes at a code over 224.
-pub fn put_on(lines: &mut [u16; 144], player: Player, code: u8)
+pub fn put_on(lines: &mut [u16; 144], code: u8, player: Player)
     ensures { λ _. ⌜ now (lines .exit) ≡ writeOn (now (lines .entry)) code (colourNo player) ⌝ }
 {
     write_on(lines, code, player.number());
 }
 
-// A point made empty.
+// A point made empty. Nothing changes at a code over 224.
 pub fn remove_on(lines: &mut [u16; 144], code: u8)
     ensures { λ _. ⌜ now (lines .exit) ≡ writeOn (now (lines .entry)) code 0 ⌝ }
 {
@@ -25,14 +25,14 @@ pub fn remove_on(lines: &mut [u16; 144], code: u8)
 fn write_on(lines: &mut [u16; 144], code: u8, value: u8)
     ensures { λ _. ⌜ now (lines .exit) ≡ writeOn (now (lines .entry)) code value ⌝ }
 {
-    write_in(lines, 0, code, value);
-    write_in(lines, 1, code, value);
-    write_in(lines, 2, code, value);
-    write_in(lines, 3, code, value);
+    write_along(lines, 0, code, value);
+    write_along(lines, 1, code, value);
+    write_along(lines, 2, code, value);
+    write_along(lines, 3, code, value);
 }
 
 // .. on the line through it in one direction, if that is stored.
-fn write_in(lines: &mut [u16; 144], d: u8, code: u8, value: u8)
+fn write_along(lines: &mut [u16; 144], d: u8, code: u8, value: u8)
     requires { ⌜ d < 4 ⌝ }
     ensures { λ _. ⌜ now (lines .exit) ≡ writeIn (now (lines .entry)) d code value ⌝ }
 {
@@ -55,27 +55,28 @@ fn write_line(lines: &mut [u16; 144], key: u8, cell: u8, value: u8)
 }
 
 // A stone at a point where none stands: its colour's bit on each stored line through it, which is half of what a put writes.
-pub fn add_on(lines: &mut [u16; 144], player: Player, code: u8)
+// Nothing changes at a code over 224, here and below.
+pub fn add_on(lines: &mut [u16; 144], code: u8, player: Player)
     ensures { λ _. ⌜ now (lines .exit) ≡ addOn (now (lines .entry)) code player ⌝ }
 {
-    mark_in(lines, 0, code, player, true);
-    mark_in(lines, 1, code, player, true);
-    mark_in(lines, 2, code, player, true);
-    mark_in(lines, 3, code, player, true);
+    mark_along(lines, 0, code, player, true);
+    mark_along(lines, 1, code, player, true);
+    mark_along(lines, 2, code, player, true);
+    mark_along(lines, 3, code, player, true);
 }
 
 // The player's stone taken off again.
-pub fn lift_on(lines: &mut [u16; 144], player: Player, code: u8)
+pub fn lift_on(lines: &mut [u16; 144], code: u8, player: Player)
     ensures { λ _. ⌜ now (lines .exit) ≡ liftOn (now (lines .entry)) code player ⌝ }
 {
-    mark_in(lines, 0, code, player, false);
-    mark_in(lines, 1, code, player, false);
-    mark_in(lines, 2, code, player, false);
-    mark_in(lines, 3, code, player, false);
+    mark_along(lines, 0, code, player, false);
+    mark_along(lines, 1, code, player, false);
+    mark_along(lines, 2, code, player, false);
+    mark_along(lines, 3, code, player, false);
 }
 
 // .. on the line in one direction, if that is stored.
-fn mark_in(lines: &mut [u16; 144], d: u8, code: u8, player: Player, on: bool)
+fn mark_along(lines: &mut [u16; 144], d: u8, code: u8, player: Player, on: bool)
     requires { ⌜ d < 4 ⌝ }
     ensures { λ _. ⌜ now (lines .exit) ≡ markIn (now (lines .entry)) d code player on ⌝ }
 {
@@ -87,7 +88,7 @@ fn mark_in(lines: &mut [u16; 144], d: u8, code: u8, player: Player, on: bool)
 }
 
 // The player's stones on the line of a key; none for a key over 71.
-pub fn mask_on(lines: &[u16; 144], player: Player, key: u8) -> u16
+pub fn mask_on(lines: &[u16; 144], key: u8, player: Player) -> u16
     ensures { λ r. ⌜ r ≡ maskOn player (now (lines .entry)) key ⌝ }
 {
     if 72 <= key {

@@ -6,20 +6,21 @@ ghost use mathlib.Core.Path.{_≡_};
 ghost use Prim.Native.Nat.{_<_};
 ghost use Rattle.grid.specs.Lines.{maskThrough, masksThrough};
 
-// The player's stones on the four lines through a point: vertical, horizontal, ascending, descending; 0 where no line is stored.
-pub fn masks_through(lines: &[u16; 144], player: Player, code: u8) -> [u16; 4]
+// The player's stones on the four lines through a point: vertical, horizontal, ascending, descending; 0 where no line is stored, as
+// for every code over 224.
+pub fn masks_on(lines: &[u16; 144], code: u8, player: Player) -> [u16; 4]
     ensures { λ r. ⌜ r ≡ masksThrough (now (lines .entry)) code player ⌝ }
 {
     [
-        mask_in(lines, 0, code, player),
-        mask_in(lines, 1, code, player),
-        mask_in(lines, 2, code, player),
-        mask_in(lines, 3, code, player),
+        mask_along(lines, 0, code, player),
+        mask_along(lines, 1, code, player),
+        mask_along(lines, 2, code, player),
+        mask_along(lines, 3, code, player),
     ]
 }
 
 // .. on the line in one direction.
-fn mask_in(lines: &[u16; 144], d: u8, code: u8, player: Player) -> u16
+fn mask_along(lines: &[u16; 144], d: u8, code: u8, player: Player) -> u16
     requires { ⌜ d < 4 ⌝ }
     ensures { λ r. ⌜ r ≡ maskThrough (now (lines .entry)) code player d ⌝ }
 {

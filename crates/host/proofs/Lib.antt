@@ -1,3 +1,6 @@
 -- The laws of the host interface.
-pub mod Words
+
+-- a question asked of cell bytes is asked of their board
 pub mod Asked
+-- the one number of an answer
+pub mod Words

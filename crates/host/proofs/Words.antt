@@ -8,7 +8,7 @@ use lib.Dec.{eqb}
 use lib.ListN.{length}
 use borrow.Author.Tests.{ne-eqb}
 use Rattle.rules.specs.Numbers.{verdictNo}
-use Rattle.rules.specs.Answers.{countAnswer, maskAnswer, numberAnswer}
+use Rattle.rules.specs.Answers.{countAnswer, maskAnswer, numberAnswer, verdictAnswer}
 use Rattle.rules.specs.declared.Verdict.{Verdict}
 use Rattle.rules.specs.declared.answer.CountAnswer.{CountAnswer}
 use Rattle.rules.specs.declared.answer.CountAnswer.the-variants as count
@@ -18,12 +18,11 @@ use Rattle.rules.specs.declared.answer.NumberAnswer.the-variants as number
 use Rattle.rules.proofs.Logic.{decide}
 use Rattle.lent.specs.Lists.{listRefusal, listOut, counted}
 use Rattle.lent.proofs.Laws.{kept-out}
-use Rattle.referee.specs.Answers.{verdictAnswer}
-use Rattle.referee.specs.declared.answer.VerdictAnswer.the-variants as verdict
+use Rattle.rules.specs.declared.answer.VerdictAnswer.the-variants as verdict
 use Rattle.display.specs.Answers.{lengthAnswer, written}
 use Rattle.display.specs.declared.answer.LengthAnswer.{LengthAnswer}
 use Rattle.display.specs.declared.answer.LengthAnswer.the-variants as length-is
-use Rattle.host.specs.Answers.{word, countWord, maskWord, numberWord, verdictWord, lengthWord, listWord, changed}
+use Rattle.host.specs.Answers.{word, countWord, maskWord, numberWord, verdictWord, lengthWord, listWord}
 
 -- ---- the number of an answer, whatever its type
 
@@ -72,17 +71,6 @@ module _ {refused told : ℕ} (e : told ≡ refused) (given : refused ≡ 0 → 
       let o = kept-out told out a (λ z. given (sym e ∙ z)) in
       (rw (o .0) (refused-word (length a / size) k), o .1)
 
-  pub refused-change : (old new : List ℕ) {r : ℕ} → r ≡ word refused 0 → (r ≡ word told 0) × (old ≡ changed told old new)
-  unfolding changed
-  refused-change old new k = (refused-word 0 k, rw (not-none))
-
--- ---- cells that are changed where nothing is refused
-
-pub answered-change : {told : ℕ} → told ≡ 0 → (old : List ℕ) {new made : List ℕ} → made ≡ new
-    → (0 ≡ word told 0) × (made ≡ changed told old new)
-unfolding word changed
-answered-change e old k = (rw (e), rw (e) k)
-
 -- ---- a list that was asked for, by what the question's refusal and its list mean
 
 module _ (size : ℕ) {asked told : ℕ} {a list : List ℕ} (e : asked ≡ told) (l : a ≡ list) (out : List ℕ) where
@@ -95,17 +83,12 @@ module _ (size : ℕ) {asked told : ℕ} {a list : List ℕ} (e : asked ≡ told
     o ∙ ap₂ (λ (x : ℕ) (y : List ℕ). listOut x out y) e l,
   )
 
-  -- .. with its count; with a number that is its count; a text, whose length is known
+  -- .. with its count; a text, whose length is known
   pub answered-count : {r : ℕ} {answer : CountAnswer} {out′ : List ℕ} → r ≡ countWord answer
       → (answer ≡ counted size asked out a) × (out′ ≡ listOut asked out a)
       → (r ≡ listWord size told out list) × (out′ ≡ listOut told out list)
   unfolding counted
   answered-count k o = answered-list refl (k ∙ ap countWord (o .0) ∙ count-word (listRefusal asked out a) (length a / size)) (o .1)
-
-  pub answered-number : {n r : ℕ} {answer : NumberAnswer} {out′ : List ℕ} → n ≡ length a / size → r ≡ numberWord answer
-      → (answer ≡ numberAnswer (listRefusal asked out a) n) × (out′ ≡ listOut asked out a)
-      → (r ≡ listWord size told out list) × (out′ ≡ listOut told out list)
-  answered-number {n} m k o = answered-list m (k ∙ ap numberWord (o .0) ∙ number-word (listRefusal asked out a) n) (o .1)
 
   pub answered-length : {n r : ℕ} {answer : LengthAnswer} {out′ : List ℕ} → n ≡ length a / size → r ≡ lengthWord answer n
       → (answer ≡ written asked out a) × (out′ ≡ listOut asked out a)

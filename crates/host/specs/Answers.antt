@@ -13,11 +13,11 @@ use Rattle.rules.specs.declared.answer.MaskAnswer.the-variants as mask
 use Rattle.rules.specs.declared.answer.NumberAnswer.{NumberAnswer}
 use Rattle.rules.specs.declared.answer.NumberAnswer.the-variants as number
 use Rattle.lent.specs.Lists.{listRefusal}
-use Rattle.point.specs.Points.{codeRefusal}
-use Rattle.board.specs.Boards.{boardOf, cellsRefusal}
+use Rattle.board.specs.Boards.{boardOf}
+use Rattle.cells.specs.Cells.{cellsRefusal}
 use Rattle.board.specs.declared.board.Board.{Board}
-use Rattle.referee.specs.declared.answer.VerdictAnswer.{VerdictAnswer}
-use Rattle.referee.specs.declared.answer.VerdictAnswer.the-variants as verdict
+use Rattle.rules.specs.declared.answer.VerdictAnswer.{VerdictAnswer}
+use Rattle.rules.specs.declared.answer.VerdictAnswer.the-variants as verdict
 use Rattle.display.specs.declared.answer.LengthAnswer.{LengthAnswer}
 use Rattle.display.specs.declared.answer.LengthAnswer.the-variants as length-is
 use Rattle.line.specs.declared.line.Line.{Line}
@@ -31,10 +31,6 @@ word refused n = cond (eqb refused 0) n (refused * 65536)
 -- of a list into a lent buffer: how many items of `size` bytes it has
 unfoldable pub listWord : ℕ → ℕ → List ℕ → List ℕ → ℕ
 listWord size refused out a = word (listRefusal refused out a) (length a / size)
-
--- cells that are lent, after a change: a refusal leaves them as they were
-unfoldable pub changed : ℕ → List ℕ → List ℕ → List ℕ
-changed refused old new = cond (eqb refused 0) new old
 
 -- ---- the number of an answer of the crates below
 
@@ -65,11 +61,7 @@ lengthWord (length-is.Refused refused) n = word refused 0
 unfoldable pub refusalOf : List ℕ → (Board → ℕ) → ℕ
 refusalOf cells question = first (cellsRefusal cells) (question (boardOf cells))
 
--- 9, then 8, of cells that are changed where they stand, with no board made of them
-abbrev pub changeRefusal : List ℕ → ℕ → ℕ
-changeRefusal cells p = first (cellsRefusal cells) (codeRefusal p)
-
 -- ---- a line alone, by its masks
 
-abbrev pub lineOf : ℕ → ℕ → ℕ → Line
-lineOf blacks whites size = record { blacks = blacks; whites = whites; size = size }
+abbrev pub lineBy : ℕ → ℕ → ℕ → Line
+lineBy blacks whites size = record { blacks = blacks; whites = whites; size = size }

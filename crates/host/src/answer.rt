@@ -1,8 +1,8 @@
 // The one number that every function answers, from the answers of the crates below.
-use referee::VerdictAnswer;
 use rules::CountAnswer;
 use rules::MaskAnswer;
 use rules::NumberAnswer;
+use rules::VerdictAnswer;
 ghost use mathlib.Core.Path.{_≡_};
 ghost use Rattle.host.specs.Answers.{word, countWord, maskWord, numberWord, verdictWord};
 

@@ -2,35 +2,32 @@
 use super::answer::count_word;
 use super::answer::word;
 use board::Board;
-use lists::empty_points;
+use cells::empty_points_of;
+use cells::neighbors_of;
+use cells::stones_of;
 use lists::four_eyes_on;
-use lists::neighbors;
 use lists::rows;
 use lists::rows_on;
-use lists::stones;
 use referee::forbidden_points_of;
 ghost use mathlib.Core.Path.{_≡_};
 ghost use Rattle.rules.specs.Numbers.{playerOf, kindOf};
 ghost use Rattle.rules.specs.Grid.{stonesOf, emptyPoints, neighbours, rowsOf, rowsOnPoint, fourEyes};
 ghost use Rattle.rules.specs.Forbidden.{forbiddenList};
 ghost use Rattle.lent.specs.Lists.{listOut};
-ghost use Rattle.board.specs.Boards.{cellsRefusal, refusalFor, rowsOnRefusal};
-ghost use Rattle.lists.specs.Lists.{stonesRefusal, nearRefusal, rowsRefusal};
+ghost use Rattle.board.specs.Boards.{refusalFor, rowsOnRefusal};
+ghost use Rattle.lists.specs.Lists.{rowsRefusal};
 ghost use Rattle.host.specs.Answers.{listWord, refusalOf};
+ghost use Rattle.cells.specs.Cells.{cellsRefusal, cellsStonesRefusal, cellsNeighboursRefusal};
 
 // The colour's stones, as codes, ascending.
 #[no_mangle]
 pub extern "C" fn renju_stones(cells: &[u8], colour: u8, out: &mut [u8]) -> u32
-    ensures { λ r. ⌜ (r ≡ listWord 1 (refusalOf (now (cells .entry)) (λ b. stonesRefusal b colour)) (now (out .entry))
+    ensures { λ r. ⌜ (r ≡ listWord 1 (cellsStonesRefusal (now (cells .entry)) colour) (now (out .entry))
         (stonesOf (playerOf colour) (now (cells .entry))))
-        × (now (out .exit) ≡ listOut (refusalOf (now (cells .entry)) (λ b. stonesRefusal b colour)) (now (out .entry))
+        × (now (out .exit) ≡ listOut (cellsStonesRefusal (now (cells .entry)) colour) (now (out .entry))
         (stonesOf (playerOf colour) (now (cells .entry)))) ⌝ }
 {
-    let made = Board::from_cells(cells);
-    if made.refused != 0 {
-        return word(made.refused, 0);
-    }
-    count_word(stones(made.board, colour, out))
+    count_word(stones_of(cells, colour, out))
 }
 
 // The empty points, as codes, ascending.
@@ -39,11 +36,7 @@ pub extern "C" fn renju_empty_points(cells: &[u8], out: &mut [u8]) -> u32
     ensures { λ r. ⌜ (r ≡ listWord 1 (cellsRefusal (now (cells .entry))) (now (out .entry)) (emptyPoints (now (cells .entry))))
         × (now (out .exit) ≡ listOut (cellsRefusal (now (cells .entry))) (now (out .entry)) (emptyPoints (now (cells .entry)))) ⌝ }
 {
-    let made = Board::from_cells(cells);
-    if made.refused != 0 {
-        return word(made.refused, 0);
-    }
-    count_word(empty_points(made.board, out))
+    count_word(empty_points_of(cells, out))
 }
 
 // The points up to a distance along the four lines through a point, as codes, line by line.
@@ -55,16 +48,12 @@ pub extern "C" fn renju_neighbors(
     only_empty: bool,
     out: &mut [u8],
 ) -> u32
-    ensures { λ r. ⌜ (r ≡ listWord 1 (refusalOf (now (cells .entry)) (λ b. nearRefusal b code distance)) (now (out .entry))
+    ensures { λ r. ⌜ (r ≡ listWord 1 (cellsNeighboursRefusal (now (cells .entry)) code distance) (now (out .entry))
         (neighbours (now (cells .entry)) code distance «only_empty»))
-        × (now (out .exit) ≡ listOut (refusalOf (now (cells .entry)) (λ b. nearRefusal b code distance)) (now (out .entry))
+        × (now (out .exit) ≡ listOut (cellsNeighboursRefusal (now (cells .entry)) code distance) (now (out .entry))
         (neighbours (now (cells .entry)) code distance «only_empty»)) ⌝ }
 {
-    let made = Board::from_cells(cells);
-    if made.refused != 0 {
-        return word(made.refused, 0);
-    }
-    count_word(neighbors(made.board, code, distance, only_empty, out))
+    count_word(neighbors_of(cells, code, distance, only_empty, out))
 }
 
 // The colour's rows of a kind, four bytes each: key, start, stones mask, eyes mask.

@@ -5,13 +5,13 @@ ghost use mathlib.Core.Path.{_≡_};
 ghost use Rattle.rules.specs.Numbers.{kindOf};
 ghost use Rattle.rules.specs.Bit.{maskOf};
 ghost use Rattle.rules.specs.Line.{eyeOfSome};
-ghost use Rattle.line.specs.Lines.{own, other, rowsOf, rowsOn, rowsRefusal, rowsOnRefusal};
-ghost use Rattle.host.specs.Answers.{word, lineOf};
+ghost use Rattle.line.specs.Lines.{own, other, lineRowsAt, lineRowsOn, lineRowsRefusal, lineRowsOnRefusal};
+ghost use Rattle.host.specs.Answers.{word, lineBy};
 
 #[no_mangle]
 pub extern "C" fn renju_line_starts(blacks: u16, whites: u16, size: u8, colour: u8, kind: u8) -> u32
-    ensures { λ r. ⌜ r ≡ word (rowsRefusal (lineOf blacks whites size) colour kind)
-        (maskOf 16 (rowsOf (lineOf blacks whites size) colour kind)) ⌝ }
+    ensures { λ r. ⌜ r ≡ word (lineRowsRefusal (lineBy blacks whites size) colour kind)
+        (maskOf 16 (lineRowsAt (lineBy blacks whites size) colour kind)) ⌝ }
 {
     mask_word(Line {
         blacks,
@@ -30,8 +30,8 @@ pub extern "C" fn renju_line_starts_on(
     kind: u8,
     cell: u8,
 ) -> u32
-    ensures { λ r. ⌜ r ≡ word (rowsOnRefusal (lineOf blacks whites size) cell colour kind)
-        (maskOf 16 (rowsOn (lineOf blacks whites size) cell colour kind)) ⌝ }
+    ensures { λ r. ⌜ r ≡ word (lineRowsOnRefusal (lineBy blacks whites size) cell colour kind)
+        (maskOf 16 (lineRowsOn (lineBy blacks whites size) cell colour kind)) ⌝ }
 {
     mask_word(Line {
         blacks,
@@ -42,9 +42,9 @@ pub extern "C" fn renju_line_starts_on(
 
 #[no_mangle]
 pub extern "C" fn renju_line_eyes(blacks: u16, whites: u16, size: u8, colour: u8, kind: u8) -> u32
-    ensures { λ r. ⌜ r ≡ word (rowsRefusal (lineOf blacks whites size) colour kind)
-        (maskOf 16 (eyeOfSome size (own (lineOf blacks whites size) colour) (other (lineOf blacks whites size) colour) (kindOf kind)
-        (rowsOf (lineOf blacks whites size) colour kind))) ⌝ }
+    ensures { λ r. ⌜ r ≡ word (lineRowsRefusal (lineBy blacks whites size) colour kind)
+        (maskOf 16 (eyeOfSome size (own (lineBy blacks whites size) colour) (other (lineBy blacks whites size) colour) (kindOf kind)
+        (lineRowsAt (lineBy blacks whites size) colour kind))) ⌝ }
 {
     mask_word(Line {
         blacks,

@@ -1,29 +1,27 @@
 // A text read into 225 cell bytes, and cell bytes written as a diagram.
-use super::answer::number_word;
 use super::answer::word;
-use board::Board;
 use display::LengthAnswer;
-use display::write_diagram;
-use display::write_numbered;
-use text::read_board;
+use display::write_diagram_of;
+use display::write_numbered_of;
+use lent::write_out;
+use text::read_cells;
 ghost use mathlib.Core.Path.{_≡_};
 ghost use Rattle.lent.specs.Lists.{listOut};
-ghost use Rattle.board.specs.Boards.{cellsRefusal};
 ghost use Rattle.text.specs.Reading.{readRefusal, readCells};
 ghost use Rattle.display.specs.Texts.{diagramOf, numberedOf};
 ghost use Rattle.host.specs.Answers.{listWord, lengthWord};
+ghost use Rattle.cells.specs.Cells.{cellsRefusal};
 
-// The board that a text says, as cell bytes to the front of `cells`.
+// The cells that a text says, to the front of `cells`.
 #[no_mangle]
 pub extern "C" fn renju_read(text: &[u8], cells: &mut [u8]) -> u32
     ensures { λ r. ⌜ (r ≡ listWord 1 (readRefusal (now (text .entry))) (now (cells .entry)) (readCells (now (text .entry))))
         × (now (cells .exit) ≡ listOut (readRefusal (now (text .entry))) (now (cells .entry)) (readCells (now (text .entry)))) ⌝ }
 {
-    let read = read_board(text);
-    if read.refused != 0 {
-        return word(read.refused, 0);
-    }
-    number_word(read.board.to_cells(cells))
+    let read = read_cells(text);
+    let bytes = read.cells;
+    let refused = write_out(read.refused, cells, &bytes, 225);
+    word(refused, 225)
 }
 
 // The plain diagram, which `renju_read` reads back.
@@ -32,11 +30,7 @@ pub extern "C" fn renju_to_string(cells: &[u8], out: &mut [u8]) -> u32
     ensures { λ r. ⌜ (r ≡ listWord 1 (cellsRefusal (now (cells .entry))) (now (out .entry)) (diagramOf (now (cells .entry))))
         × (now (out .exit) ≡ listOut (cellsRefusal (now (cells .entry))) (now (out .entry)) (diagramOf (now (cells .entry)))) ⌝ }
 {
-    let made = Board::from_cells(cells);
-    if made.refused != 0 {
-        return word(made.refused, 0);
-    }
-    length_word(write_diagram(made.board, out), 464)
+    length_word(write_diagram_of(cells, out), 464)
 }
 
 // The diagram with its rows numbered and its columns lettered.
@@ -45,11 +39,7 @@ pub extern "C" fn renju_to_pretty_string(cells: &[u8], out: &mut [u8]) -> u32
     ensures { λ r. ⌜ (r ≡ listWord 1 (cellsRefusal (now (cells .entry))) (now (out .entry)) (numberedOf (now (cells .entry))))
         × (now (out .exit) ≡ listOut (cellsRefusal (now (cells .entry))) (now (out .entry)) (numberedOf (now (cells .entry)))) ⌝ }
 {
-    let made = Board::from_cells(cells);
-    if made.refused != 0 {
-        return word(made.refused, 0);
-    }
-    length_word(write_numbered(made.board, out), 527)
+    length_word(write_numbered_of(cells, out), 527)
 }
 
 // The length of a text that always has the same.

@@ -7,7 +7,7 @@ use referee::forbidden_strict_of;
 ghost use mathlib.Core.Path.{_≡_};
 ghost use Rattle.rules.specs.Numbers.{verdictNo};
 ghost use Rattle.rules.specs.Forbidden.{plainOf, strictOf};
-ghost use Rattle.board.specs.Boards.{refusalAt};
+ghost use Rattle.cells.specs.Cells.{cellsRefusalAt};
 ghost use Rattle.referee.specs.Answers.{forbiddenRefusal};
 ghost use Rattle.host.specs.Answers.{word, refusalOf};
 
@@ -27,8 +27,7 @@ pub extern "C" fn renju_forbidden(cells: &[u8], code: u8) -> u32
 // The strict verdict: none at an occupied point, and where the stone completes a five.
 #[no_mangle]
 pub extern "C" fn renju_forbidden_strict(cells: &[u8], code: u8) -> u32
-    ensures { λ r. ⌜ r ≡ word (refusalOf (now (cells .entry)) (λ b. refusalAt b code))
-        (verdictNo (strictOf (now (cells .entry)) code)) ⌝ }
+    ensures { λ r. ⌜ r ≡ word (cellsRefusalAt (now (cells .entry)) code) (verdictNo (strictOf (now (cells .entry)) code)) ⌝ }
 {
     verdict_word(forbidden_strict_of(cells, code))
 }

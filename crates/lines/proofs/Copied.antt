@@ -6,7 +6,7 @@ use mathlib.Core.List.{List}
 use Prim.Native.Nat.{ℕ, _<_}
 use lib.Dec.{eqb}
 use borrow.Author.Tests.{ne-eqb, lt-ltb}
-use Rattle.rules.specs.Refusals.{first}
+use Rattle.rules.specs.Refusals.{first, directionRefusal, lineNoRefusal}
 use Rattle.rules.specs.Point.{lineNo, lineCount, stored, storedAt, keyOf, keyAt, keySize}
 use Rattle.rules.specs.declared.Player.the-variants.{Black, White}
 use Rattle.rules.proofs.Logic.{true-T, decide}
@@ -14,7 +14,6 @@ use Rattle.rules.proofs.Refusals.{first-none, given}
 use Rattle.rules.proofs.Address.{line-here, key-lt, key-dir, key-no}
 use Rattle.point.specs.Answers.{keyAnswer}
 use Rattle.point.specs.Places.{hasPlace, placeOf}
-use Rattle.point.specs.Points.{directionRefusal, lineRefusal}
 use Rattle.point.specs.declared.place.Place.{Place}
 use Rattle.point.specs.declared.answer.KeyAnswer.{KeyAnswer}
 use Rattle.point.specs.declared.answer.KeyAnswer.the-variants as key
@@ -88,13 +87,13 @@ line-keyed f refused s k = go (decide (eqb refused 0)) s
     go (inr e) s = rw e
 
 pub line-numbered : (b : Board) (d i : ℕ) → boardRefusal b ≡ 0
-    → lineBy (shownLine (b .lines)) (keyAnswer (lineRefusal d i) (stored d i) (keyOf d i))
-    ≡ storedLine (first (boardRefusal b) (lineRefusal d i)) (stored d i) (lineOf (cellsOf (b .lines)) d i)
+    → lineBy (shownLine (b .lines)) (keyAnswer (lineNoRefusal d i) (stored d i) (keyOf d i))
+    ≡ storedLine (first (boardRefusal b) (lineNoRefusal d i)) (stored d i) (lineOf (cellsOf (b .lines)) d i)
 unfolding first
 line-numbered b d i none =
     rw none
-    (line-keyed (shownLine (b .lines)) (lineRefusal d i) (stored d i) (keyOf d i)
-    ∙ line-given (lineRefusal d i) (stored d i) (stored d i) (shownLine (b .lines) (keyOf d i)) (lineOf (cellsOf (b .lines)) d i)
+    (line-keyed (shownLine (b .lines)) (lineNoRefusal d i) (stored d i) (keyOf d i)
+    ∙ line-given (lineNoRefusal d i) (stored d i) (stored d i) (shownLine (b .lines) (keyOf d i)) (lineOf (cellsOf (b .lines)) d i)
     (λ z. refl)
     (λ z t. let h = line-in d i z in key-line (b .lines) d i (sound-in b none) (h .0) (h .1) t))
 

@@ -3,12 +3,11 @@ use mathlib.Core.Bool.{Bool, cond}
 use mathlib.Core.List.{List}
 use Prim.Native.Nat.{ℕ}
 use lib.Dec.{eqb}
-use Rattle.rules.specs.Refusals.{first}
+use Rattle.rules.specs.Refusals.{first, directionRefusal}
 use Rattle.rules.specs.Bit.{maskOf}
 use Rattle.rules.specs.Point.{lineNo, lineSize, storedAt, keySize}
 use Rattle.rules.specs.Grid.{stoneAt}
 use Rattle.rules.specs.declared.Player.the-variants.{Black, White}
-use Rattle.point.specs.Points.{directionRefusal}
 use Rattle.line.specs.declared.line.Line.{Line}
 use Rattle.grid.specs.Lines.{maskOn}
 use Rattle.board.specs.Boards.{cells, refusalAt}

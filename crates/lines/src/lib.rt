@@ -15,9 +15,8 @@ use point::line_key;
 use rules::Player;
 use rules::first;
 ghost use mathlib.Core.Path.{_≡_};
-ghost use Rattle.rules.specs.Refusals.{first};
+ghost use Rattle.rules.specs.Refusals.{first, lineNoRefusal};
 ghost use Rattle.rules.specs.Point.{stored};
-ghost use Rattle.point.specs.Points.{lineRefusal};
 ghost use Rattle.board.specs.Boards.{cells, boardRefusal};
 ghost use Rattle.lines.specs.Copies.{lineOf, shownLine, storedLine, lineThrough, linesThrough};
 
@@ -48,7 +47,7 @@ pub fn lines_on(board: Board, code: u8) -> LinesOn
 
 // A copy of line i in a direction.
 pub fn line(board: Board, d: u8, i: u8) -> StoredLineAnswer
-    ensures { λ r. ⌜ r ≡ storedLine (first (boardRefusal board) (lineRefusal d i)) (stored d i) (lineOf (cells board) d i) ⌝ }
+    ensures { λ r. ⌜ r ≡ storedLine (first (boardRefusal board) (lineNoRefusal d i)) (stored d i) (lineOf (cells board) d i) ⌝ }
 {
     let refused = board.refusal();
     if refused != 0 {
@@ -67,8 +66,8 @@ fn line_of(lines: &[u16; 144], key: u8) -> Line
     ensures { λ r. ⌜ r ≡ shownLine (now (lines .entry)) key ⌝ }
 {
     Line {
-        blacks: mask_on(lines, Player::Black, key),
-        whites: mask_on(lines, Player::White, key),
+        blacks: mask_on(lines, key, Player::Black),
+        whites: mask_on(lines, key, Player::White),
         size: key_size(key),
     }
 }

@@ -4,13 +4,12 @@ use mathlib.Core.Bool.{Bool, true, not, _||_}
 use Prim.Native.Nat.{ℕ, _+_, _<_}
 use native.Mathlib.Omega.{arith}
 use lib.Dec.{T, ltb, ltb→lt}
-use Rattle.rules.specs.Refusals.{unless}
+use Rattle.rules.specs.Refusals.{unless, keyRefusal}
 use Rattle.rules.specs.Tools.{allBelow}
 use Rattle.rules.specs.Bit.{bit}
 use Rattle.rules.specs.Point.{lineCount, lineSize, keyDir, keyNo, keySize}
 use Rattle.rules.proofs.Refusals.{first-none, passed}
 use Rattle.rules.proofs.Address.{keyDir-lt, keyNo-lt, keySize-le}
-use Rattle.point.specs.Points.{keyRefusal}
 use Rattle.lists.specs.Lists.{maskCell, maskRefusal}
 
 -- a set bit names a cell of the line, which fits a byte

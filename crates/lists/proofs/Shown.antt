@@ -1,21 +1,20 @@
--- What the masks of sound lines show is what the rules say of the cells: rows, eyes, empty points. Assumes nothing.
+-- What the masks of sound lines show is what the rules say of the cells: rows and eyes. Assumes nothing.
 use mathlib.Core.Path.{_≡_, ap, ap₂, sym, subst, _∙_}
-use mathlib.Core.Bool.{Bool, true, false, not, _&&_, _||_}
+use mathlib.Core.Bool.{Bool, true, false, _&&_}
 use mathlib.Core.List.{List, [], _∷_}
 use Prim.Native.Nat.{ℕ, suc, _+_, _-_, _/_, _%_, _^_, _≤_, _<_}
 use native.Mathlib.Nat.{add-comm, mod-lt}
 use native.Mathlib.Omega.{arith}
 use lib.Dec.{T, leb, ltb, lit<}
-use lib.ListN.{getD}
 use lib.Bits.{bitAnd}
-use borrow.Author.Tests.{le-leb, lt-leb, le-ltb, lt-ltb}
+use borrow.Author.Tests.{le-leb, le-ltb}
 use Rattle.rules.specs.Numbers.{isBlack, opponentOf}
 use Rattle.rules.specs.Tools.{gather, only}
 use Rattle.rules.specs.Bit.{bit, maskOf}
 use Rattle.rules.specs.Line.{Stones, rowAt, emptyAt, eyeSpan, eyeCells, among, isEye, eyeOfSome, stonesMask, eyesMask, eyesOf}
-use Rattle.rules.specs.Point.{lineNo, cellNo, lineSize, pointAt, keyAt, keyDir, keyNo, keySize}
-use Rattle.rules.specs.Grid.{isEmpty, stoneAt, rowOn, rowsThrough, rowBytes, lineRows}
-use Rattle.rules.specs.Grid.{emptyPoints, fourEye, onLine, keyRows, rowsIn, eyesIn, nearItem}
+use Rattle.rules.specs.Point.{lineNo, lineSize, pointAt, keyAt, keyDir, keyNo, keySize}
+use Rattle.rules.specs.Grid.{stoneAt, rowOn, rowsThrough, rowBytes, lineRows}
+use Rattle.rules.specs.Grid.{fourEye, keyRows, rowsIn, eyesIn}
 use Rattle.rules.specs.declared.Player.{Player}
 use Rattle.rules.specs.declared.RowKind.{RowKind}
 use Rattle.rules.specs.declared.RowKind.the-variants.{Four}
@@ -28,10 +27,10 @@ use Rattle.masks.proofs.Windows.{eyes-bit}
 use Rattle.point.specs.Places.{hasPlace}
 use Rattle.rules.proofs.Address.{size-le}
 use Rattle.grid.specs.Lines.{shows, cellsOf, Sound, startsIn}
-use Rattle.grid.proofs.Lines.{line-at, shows-sound, empty-cell}
-use Rattle.grid.proofs.RowStarts.{none-short, starts-in, starts-bits}
+use Rattle.grid.proofs.Lines.{line-at, shows-sound}
+use Rattle.grid.proofs.RowStarts.{none-short, starts-along, starts-bits}
 use Rattle.lent.proofs.Laws.{gather-nothing}
-use Rattle.lists.specs.Lists.{valueList, cellList, rowList}
+use Rattle.lists.specs.Lists.{cellList, rowList}
 
 -- ---- five bits of a mask
 
@@ -64,29 +63,6 @@ five-eyes size own other kind j h =
     near i =
         same-leb (suc i) (eyeSpan kind) (suc (j + i)) (j + eyeSpan kind) (λ a. omega arith) (λ a. omega arith)
         ∙ sym (rw (le-leb j (j + i) (omega arith)))
-
--- ---- empty cells
-
-pub empty-list : (l : List ℕ) → valueList (cellsOf l) 0 ≡ emptyPoints (cellsOf l)
-unfolding valueList emptyPoints
-empty-list l = gather-cong 225 _ _ (λ p h. ap (λ (b : Bool). only b (p ∷ [])) (empty-cell l p h))
-
--- ---- neighbours
-
-module _ (cells : List ℕ) (p n : ℕ) (onlyEmpty : Bool) (d s : ℕ) where
-  pub near-before : cellNo d p + s < n → [] ≡ nearItem cells p n onlyEmpty d s
-  unfolding onLine
-  near-before h = rw (lt-leb n (cellNo d p + s) h)
-
-  pub near-past : n ≤ cellNo d p + s → lineSize d (lineNo d p) ≤ cellNo d p + s - n → [] ≡ nearItem cells p n onlyEmpty d s
-  unfolding onLine
-  near-past h g = rw (le-leb n (cellNo d p + s) h, le-ltb (cellNo d p + s - n) (lineSize d (lineNo d p)) g)
-
-  pub near-there : n ≤ cellNo d p + s → cellNo d p + s - n < lineSize d (lineNo d p)
-      → only (not onlyEmpty || isEmpty (getD cells (pointAt d (lineNo d p) (cellNo d p + s - n)) 0))
-      (pointAt d (lineNo d p) (cellNo d p + s - n) ∷ []) ≡ nearItem cells p n onlyEmpty d s
-  unfolding onLine
-  near-there h g = rw (le-leb n (cellNo d p + s) h, lt-ltb (cellNo d p + s - n) (lineSize d (lineNo d p)) g)
 
 -- ---- rows
 
@@ -153,7 +129,7 @@ point-eyes r l p d s hd e =
     let key = keyAt d p in
     let rows = rowsThrough r Four (cellsOf l) p d in
     ap (λ (m : ℕ). maskOf 16 (eyesOf (keySize key) (shows r l key) (shows (opponentOf r) l key) (bit m) (bit (eyeCells Four))))
-    (starts-in r Four l p d s hd (th .point))
+    (starts-along r Four l p d s hd (th .point))
     ∙ mask-cong 16 _ _ (λ i h. eyes-bit (keySize key) (shows r l key) (shows (opponentOf r) l key) Four rows i h)
     ∙ ap₂ (λ (f g : Stones). maskOf 16 (eyeOfSome (keySize key) f g Four rows)) (shows-sound r l key s (th .key))
     (shows-sound (opponentOf r) l key s (th .key))

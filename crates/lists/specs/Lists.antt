@@ -1,27 +1,18 @@
 -- The parts of the lists of section 4, line by line, and the refusals of those who ask for them.
 use mathlib.Core.Bool.{Bool, not, _||_}
 use mathlib.Core.List.{List, [], _∷_}
-use Prim.Native.Nat.{ℕ, _+_, _-_}
-use lib.Dec.{eqb, leb, ltb}
-use lib.ListN.{getD}
-use Rattle.rules.specs.Refusals.{first, unless, colourRefusal, kindRefusal}
+use Prim.Native.Nat.{ℕ, _+_}
+use lib.Dec.{ltb}
+use Rattle.rules.specs.Refusals.{noPlace, unless, first, colourRefusal, kindRefusal, distanceRefusal, keyRefusal}
 use Rattle.rules.specs.Tools.{allBelow, gather, only}
 use Rattle.rules.specs.Bit.{bit}
 use Rattle.rules.specs.Line.{Stones, stonesMask, eyesMask}
 use Rattle.rules.specs.Point.{lineSize, pointAt, keySize, keyPoint}
 use Rattle.rules.specs.declared.RowKind.{RowKind}
-use Rattle.point.specs.Points.{keyRefusal}
 use Rattle.board.specs.declared.board.Board.{Board}
 use Rattle.board.specs.Boards.{boardRefusal, refusalAt}
 
 -- ---- the parts of the lists
-
--- the points whose cell has a value
-abbrev pub valueItem : List ℕ → ℕ → ℕ → List ℕ
-valueItem cells v p = only (eqb (getD cells p 0) v) (p ∷ [])
-
-unfoldable pub valueList : List ℕ → ℕ → List ℕ
-valueList cells v = gather 225 (valueItem cells v)
 
 -- the codes of the cells of line i that pass a test
 abbrev pub cellItem : ℕ → ℕ → (ℕ → Bool) → ℕ → List ℕ
@@ -50,8 +41,8 @@ unfoldable pub stonesRefusal : Board → ℕ → ℕ
 stonesRefusal b colour = first (boardRefusal b) (colourRefusal colour)
 
 -- "12 .. neighbour distance over 14"
-unfoldable pub nearRefusal : Board → ℕ → ℕ → ℕ
-nearRefusal b p n = first (refusalAt b p) (unless (leb n 14) 12)
+unfoldable pub neighboursRefusal : Board → ℕ → ℕ → ℕ
+neighboursRefusal b p n = first (refusalAt b p) (distanceRefusal n)
 
 unfoldable pub rowsRefusal : Board → ℕ → ℕ → ℕ
 rowsRefusal b colour kind = first (stonesRefusal b colour) (kindRefusal kind)
@@ -61,4 +52,4 @@ abbrev pub maskCell : ℕ → ℕ → ℕ → ℕ → Bool
 maskCell size j mask k = not (bit mask k) || ltb (j + k) size
 
 unfoldable pub maskRefusal : ℕ → ℕ → ℕ → ℕ
-maskRefusal key j mask = first (keyRefusal key) (unless (allBelow 8 (maskCell (keySize key) j mask)) 10)
+maskRefusal key j mask = first (keyRefusal key) (unless (allBelow 8 (maskCell (keySize key) j mask)) noPlace)

@@ -1,28 +1,27 @@
-// The fronts: each tests what it is given, in section 2's order, collects its list, and hands it out.
+// The fronts: each tests what it is given, in section 2's order, collects its list, and hands it out. Stones, empty points and neighbours
+// are read off the cells that the board shows.
 use super::codes::four_eyes;
 use super::codes::mask_points;
-use super::codes::near_points;
-use super::codes::points_with;
 use super::refusal::mask_refusal;
-use super::refusal::near_refusal;
 use super::refusal::rows_refusal;
-use super::refusal::stones_refusal;
 use super::row_bytes::all_rows;
 use super::row_bytes::rows_through;
 use board::Board;
-use lent::write_out;
+use cells::empty_points_of;
+use cells::hand_out;
+use cells::neighbors_of;
+use cells::stones_of;
+use grid::cells_on;
 use rules::CountAnswer;
 use rules::Player;
 use rules::RowKind;
 ghost use mathlib.Core.Path.{_≡_};
-ghost use Prim.Native.Nat.{_/_, _<_};
-ghost use lib.ListN.{take};
+ghost use Prim.Native.Nat.{_/_};
 ghost use Rattle.rules.specs.Numbers.{playerOf, kindOf};
-ghost use Rattle.rules.specs.Answers.{countAnswer};
 ghost use Rattle.rules.specs.Grid.{stonesOf, emptyPoints, neighbours, rowsOf, rowsOnPoint, fourEyes};
-ghost use Rattle.lent.specs.Lists.{listRefusal, listOut, counted};
+ghost use Rattle.lent.specs.Lists.{listOut, counted};
 ghost use Rattle.board.specs.Boards.{cells, boardRefusal, refusalFor, rowsOnRefusal};
-ghost use Rattle.lists.specs.Lists.{stonesRefusal, nearRefusal, rowsRefusal, maskRefusal, maskPoints};
+ghost use Rattle.lists.specs.Lists.{stonesRefusal, neighboursRefusal, rowsRefusal, maskRefusal, maskPoints};
 
 // The colour's stones, as codes, ascending.
 pub fn stones(board: Board, colour: u8, out: &mut [u8]) -> CountAnswer
@@ -31,11 +30,13 @@ pub fn stones(board: Board, colour: u8, out: &mut [u8]) -> CountAnswer
         × (now (out .exit) ≡ listOut (stonesRefusal board colour) (now (out .entry))
         (stonesOf (playerOf colour) (cells board))) ⌝ }
 {
-    let refused = stones_refusal(board, colour);
+    let refused = board.refusal();
+    if refused != 0 {
+        return CountAnswer::Refused(refused);
+    }
     let lines = board.lines;
-    let found = points_with(&lines, Player::of(colour).number());
-    let bytes = found.bytes;
-    hand_out(refused, &bytes, found.len, 1, out)
+    let cells = cells_on(&lines);
+    stones_of(&cells, colour, out)
 }
 
 // The empty points, as codes, ascending.
@@ -44,10 +45,12 @@ pub fn empty_points(board: Board, out: &mut [u8]) -> CountAnswer
         × (now (out .exit) ≡ listOut (boardRefusal board) (now (out .entry)) (emptyPoints (cells board))) ⌝ }
 {
     let refused = board.refusal();
+    if refused != 0 {
+        return CountAnswer::Refused(refused);
+    }
     let lines = board.lines;
-    let found = points_with(&lines, 0);
-    let bytes = found.bytes;
-    hand_out(refused, &bytes, found.len, 1, out)
+    let cells = cells_on(&lines);
+    empty_points_of(&cells, out)
 }
 
 // The cells from `distance` before a point to `distance` after it, in each direction, short diagonals too, the point each time.
@@ -58,19 +61,18 @@ pub fn neighbors(
     only_empty: bool,
     out: &mut [u8],
 ) -> CountAnswer
-    ensures { λ r. ⌜ (r ≡ counted 1 (nearRefusal board code distance) (now (out .entry))
+    ensures { λ r. ⌜ (r ≡ counted 1 (neighboursRefusal board code distance) (now (out .entry))
         (neighbours (cells board) code distance «only_empty»))
-        × (now (out .exit) ≡ listOut (nearRefusal board code distance) (now (out .entry))
+        × (now (out .exit) ≡ listOut (neighboursRefusal board code distance) (now (out .entry))
         (neighbours (cells board) code distance «only_empty»)) ⌝ }
 {
-    let refused = near_refusal(board, code, distance);
+    let refused = board.refusal();
     if refused != 0 {
         return CountAnswer::Refused(refused);
     }
     let lines = board.lines;
-    let found = near_points(&lines, code, distance, only_empty);
-    let bytes = found.bytes;
-    hand_out(refused, &bytes, found.len, 1, out)
+    let cells = cells_on(&lines);
+    neighbors_of(&cells, code, distance, only_empty, out)
 }
 
 // The colour's rows of a kind, by key, then start, four bytes each.
@@ -85,9 +87,13 @@ pub fn rows(board: Board, colour: u8, kind: u8, out: &mut [u8]) -> CountAnswer
         return CountAnswer::Refused(refused);
     }
     let lines = board.lines;
-    let found = all_rows(&lines, Player::of(colour), RowKind::of(kind));
+    let found = all_rows(
+        &lines,
+        Player::or_white(colour),
+        RowKind::or_overlined(kind),
+    );
     let bytes = found.bytes;
-    hand_out(refused, &bytes, found.len, 4, out)
+    hand_out(refused, &bytes, found.len, (found.len / 4) as u16, out)
 }
 
 // Those through a point, line by line.
@@ -102,9 +108,14 @@ pub fn rows_on(board: Board, code: u8, colour: u8, kind: u8, out: &mut [u8]) -> 
         return CountAnswer::Refused(refused);
     }
     let lines = board.lines;
-    let found = rows_through(&lines, code, Player::of(colour), RowKind::of(kind));
+    let found = rows_through(
+        &lines,
+        code,
+        Player::or_white(colour),
+        RowKind::or_overlined(kind),
+    );
     let bytes = found.bytes;
-    hand_out(refused, &bytes, found.len, 4, out)
+    hand_out(refused, &bytes, found.len, (found.len / 4) as u16, out)
 }
 
 // The points where the colour makes a five of a four through a point, line by line, each cell once a line, ascending.
@@ -119,9 +130,9 @@ pub fn four_eyes_on(board: Board, code: u8, colour: u8, out: &mut [u8]) -> Count
         return CountAnswer::Refused(refused);
     }
     let lines = board.lines;
-    let found = four_eyes(&lines, code, Player::of(colour));
+    let found = four_eyes(&lines, code, Player::or_white(colour));
     let bytes = found.bytes;
-    hand_out(refused, &bytes, found.len, 1, out)
+    hand_out(refused, &bytes, found.len, found.len as u16, out)
 }
 
 // The points of a row's stones or eyes: cells j + k of the line of a key, for k the set bits of the row's mask.
@@ -135,15 +146,5 @@ pub fn row_points(key: u8, j: u8, mask: u8, out: &mut [u8]) -> CountAnswer
     }
     let found = mask_points(key, j, mask);
     let bytes = found.bytes;
-    hand_out(refused, &bytes, found.len, 1, out)
-}
-
-// A collected list of items of `size` bytes written to the front of `out`, and how many items it has; or what was refused, or 13.
-fn hand_out(refused: u8, bytes: &[u8], len: usize, size: usize, out: &mut [u8]) -> CountAnswer
-    requires { ⌜ (0 < size) × (len < 65536) ⌝ }
-    ensures { λ r. ⌜ (r ≡ countAnswer (listRefusal refused (now (out .entry)) (take len (now (bytes .entry)))) (len / size))
-        × (now (out .exit) ≡ listOut refused (now (out .entry)) (take len (now (bytes .entry)))) ⌝ }
-{
-    let refusal = write_out(refused, out, bytes, len);
-    CountAnswer::of(refusal, (len / size) as u16)
+    hand_out(refused, &bytes, found.len, found.len as u16, out)
 }

@@ -10,20 +10,13 @@ use rules::unless;
 ghost use mathlib.Core.Path.{_≡_};
 ghost use mathlib.Core.Bool.{_&&_};
 ghost use Rattle.rules.specs.Tools.{allBelow};
-ghost use Rattle.lists.specs.Lists.{stonesRefusal, nearRefusal, rowsRefusal, maskCell, maskRefusal};
+ghost use Rattle.lists.specs.Lists.{stonesRefusal, rowsRefusal, maskCell, maskRefusal};
 
 // The stones of a colour.
 pub(crate) fn stones_refusal(board: Board, colour: u8) -> u8
     ensures { λ r. ⌜ r ≡ stonesRefusal board colour ⌝ }
 {
     first(board.refusal(), colour_refusal(colour))
-}
-
-// The neighbours of a point.
-pub(crate) fn near_refusal(board: Board, code: u8, distance: u8) -> u8
-    ensures { λ r. ⌜ r ≡ nearRefusal board code distance ⌝ }
-{
-    first(board.refusal_at(code), unless(distance <= 14, 12))
 }
 
 // A colour's rows of a kind.

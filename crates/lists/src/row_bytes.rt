@@ -1,6 +1,6 @@
 // Rows collected line by line, four bytes each: key, start, stones mask, eyes mask.
 use grid::mask_on;
-use grid::starts_in;
+use grid::starts_along;
 use lent::keep;
 use masks;
 use masks::bit_at;
@@ -39,7 +39,7 @@ pub(crate) fn all_rows(lines: &[u16; 144], player: Player, kind: RowKind) -> Row
     let mut n = 0usize;
     let mut key = 0u8;
     while key < 72 {
-        n = keep_key(&mut bytes, n, lines, key, player, kind);
+        n = keep_key(lines, key, player, kind, &mut bytes, n);
         key += 1;
     }
     Rows { bytes, len: n }
@@ -47,20 +47,20 @@ pub(crate) fn all_rows(lines: &[u16; 144], player: Player, kind: RowKind) -> Row
 
 // Those of the line of a key, kept from place n on; the next place.
 fn keep_key(
-    buf: &mut [u8],
-    n: usize,
     lines: &[u16; 144],
     key: u8,
     player: Player,
     kind: RowKind,
+    buf: &mut [u8],
+    n: usize,
 ) -> usize
     requires { ⌜ Sound (now lines) × (key < 72) × (n + 60 ≤ length (now buf)) ⌝ }
     ensures { λ r. ⌜ Wrote (now (buf .entry)) n (keyRows player kind (cellsOf (now (lines .entry))) key) (now (buf .exit)) r ⌝ }
 {
-    let my = mask_on(lines, player, key);
-    let op = mask_on(lines, player.opponent(), key);
+    let my = mask_on(lines, key, player);
+    let op = mask_on(lines, key, player.opponent());
     let starts = masks::row_starts(my, op, key_size(key), player.is_black(), kind);
-    keep_rows(buf, n, key, my, op, kind, starts)
+    keep_rows(key, my, op, kind, starts, buf, n)
 }
 
 // The player's rows of the kind through a point, line by line.
@@ -72,44 +72,44 @@ pub(crate) fn rows_through(lines: &[u16; 144], code: u8, player: Player, kind: R
     let mut n = 0usize;
     let mut d = 0u8;
     while d < 4 {
-        n = keep_rows_in(&mut bytes, n, lines, d, code, player, kind);
+        n = keep_rows_along(lines, d, code, player, kind, &mut bytes, n);
         d += 1;
     }
     RowsOn { bytes, len: n }
 }
 
 // Those on the line in one direction, kept from place n on; the next place.
-fn keep_rows_in(
-    buf: &mut [u8],
-    n: usize,
+fn keep_rows_along(
     lines: &[u16; 144],
     d: u8,
     code: u8,
     player: Player,
     kind: RowKind,
+    buf: &mut [u8],
+    n: usize,
 ) -> usize
     requires { ⌜ Sound (now lines) × (code < 225) × (d < 4) × (n + 60 ≤ length (now buf)) ⌝ }
     ensures { λ r. ⌜ Wrote (now (buf .entry)) n (rowsIn player kind (cellsOf (now (lines .entry))) code d) (now (buf .exit)) r ⌝ }
 {
     let a = address(d, code);
     if a.stored {
-        let my = mask_on(lines, player, a.key);
-        let op = mask_on(lines, player.opponent(), a.key);
-        let starts = starts_in(lines, d, code, player, kind);
-        return keep_rows(buf, n, a.key, my, op, kind, starts);
+        let my = mask_on(lines, a.key, player);
+        let op = mask_on(lines, a.key, player.opponent());
+        let starts = starts_along(lines, d, code, player, kind);
+        return keep_rows(a.key, my, op, kind, starts, buf, n);
     }
     n
 }
 
 // The rows of one line that start where `starts` says, kept from place n on; the next place.
 fn keep_rows(
-    buf: &mut [u8],
-    n: usize,
     key: u8,
     my: u16,
     op: u16,
     kind: RowKind,
     starts: u16,
+    buf: &mut [u8],
+    n: usize,
 ) -> usize
     requires { ⌜ (key < 72) × (n + 60 ≤ length (now buf)) ⌝ }
     ensures { λ r. ⌜ Wrote (now (buf .entry)) n (rowList key (bit my) (bit op) kind (bit starts)) (now (buf .exit)) r ⌝ }

@@ -13,20 +13,20 @@ use Rattle.rules.specs.declared.Player.the-variants.{Black}
 use Rattle.rules.specs.declared.RowKind.the-variants.{Two, Three}
 use Rattle.rules.specs.declared.Verdict.{Verdict}
 use Rattle.rules.specs.declared.Verdict.the-variants.{None}
-use Rattle.rules.proofs.Starts.{masks-same}
-use Rattle.rules.proofs.Grown.{two-three}
+use Rattle.rules.proofs.Grown.{twos-grown}
 use Rattle.rules.proofs.Verdicts.{strict-taken}
 use Rattle.lent.specs.Lists.{zeros}
 use Rattle.grid.specs.Lines.{cellOf, cellsOf, linesOf, Sound, writeOn, addOn, liftOn}
-use Rattle.grid.proofs.Lines.{Cells, cells-linesOf, sound-linesOf, length-cellsOf, cell-of, empty-cell}
+use Rattle.grid.proofs.Lines.{cells-linesOf, sound-linesOf, length-cellsOf, cell-on, empty-cell}
 use Rattle.grid.proofs.Lines.{cells-write, sound-write, trial, trial-empties}
 use Rattle.grid.proofs.Marked.{add-write, trial-marked}
+use Rattle.cells.specs.Cells.{Cells}
 
 -- ---- by the cell at p
 
 module _ (l : List ℕ) (p : ℕ) (hp : p < 225) {v : ℕ} (e : v ≡ cellOf l p) where
   pub cell-is : v ≡ getD (cellsOf l) p 0
-  cell-is = e ∙ cell-of l p hp
+  cell-is = e ∙ cell-on l p hp
 
   pub free-is : isEmpty (getD (cellsOf l) p 0) ≡ eqb v 0
   free-is = sym (empty-cell l p hp) ∙ ap (λ (x : ℕ). eqb x 0) (sym cell-is)
@@ -77,9 +77,7 @@ module _ (l : List ℕ) (p : ℕ) (s : Sound l) (hp : p < 225) (free : getD (cel
   pub on-threes : {twos : List ℕ} → twos ≡ startMasks (rowsThrough Black Two (cellsOf l) p)
       → twos ≡ startMasks (rowsThrough Black Three (cellsOf m) p)
   on-threes et =
-      et
-      ∙ masks-same (rowsThrough Black Two (cellsOf l) p) (rowsThrough Black Three (withBlack (cellsOf l) p) p)
-      (λ d j hd. two-three (cellsOf l) p d j (length-cellsOf l) hp hd free)
+      et ∙ twos-grown (cellsOf l) p (length-cellsOf l) hp free
       ∙ ap (λ (c : List ℕ). startMasks (rowsThrough Black Three c p)) (sym on-cells)
 
   -- .. and off again

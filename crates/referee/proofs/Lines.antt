@@ -1,10 +1,9 @@
 -- The lines of a board behind a `&κ mut Board`, lent for a lifetime κ′ of a call as a `&κ′ mut [u16; 144]`, and taken back.
 --     Lines            the type of the field `lines`
---     with-lines h ys  the board h with the lines ys in place of its own (it has no other field)
 --     LentLines        what the holder keeps while the lines are lent under the name γ₁: the lender's part at κ′, its own borrow at κ,
 --                      open, both halves of its ghost variable, and what is left of the board
 --     lends-lines      the board's reference and [κ]_q give, under some γ₁, the lines' reference and `LentLines`
---     lines-back       once κ′ is over, `LentLines` and the last lines ys give the board's reference, at `with-lines h ys`, and [κ]_q
+--     lines-back       once κ′ is over, `LentLines` and the last lines ys give the board's reference, at `withLines h ys`, and [κ]_q
 -- So `denote.Lend`'s `lends-again` and `comes-back`, of a field. The board is another crate's: its row and its laws are cited as
 -- `Rattle.board.proofs.board.Board`. Assumes `Given`.
 use mathlib.Core.Path.{_≡_, refl, sym}
@@ -30,15 +29,13 @@ use denote.Ref.{RefT, MutRef}
 use denote.Lend.{lends-ref, ref-back}
 use borrow.Struct.Lend.{kept-record-as, record-apart-as, record-fill-as}
 use borrow.Struct.Items.{list-same}
+use Rattle.board.specs.Boards.{withLines}
 use Rattle.board.specs.declared.board.Board.{Board}
 use Rattle.board.proofs.board.Board as T
 use Rattle.board.proofs.board.Board.Laws as T′
 
 abbrev pub Lines : RattleType
 Lines = Array u16 144
-
-abbrev pub with-lines : Board → List ℕ → Board
-with-lines h ys = record { lines = ys }
 
 -- the elements of the field as the struct's row has them and as the array's has them
 pub to-same : (f : List ℕ) (b o : ℕ) → partAt Lines fullShare f b o ≡ partAt Lines fullShare (map (λ v. v) f) b o
@@ -73,7 +70,7 @@ module _ {M : Type 1} (𝓤 : URA M) (H : Heap 𝓤) (A : Atoms 𝓤) where
         (T.struct .as-values) (T.struct .Ghost) (T.struct .make) (λ v. tt) (λ x. refl) (λ v g. refl) 𝓤 H A W refl refl h b o
 
     fill : (ys : List ℕ) → ent 𝓤 (sep 𝓤 (sem 𝓤 H A (partAt Lines fullShare ys b (o + 0))) (mean 𝓤 H A (Kept h b o)))
-        (sem 𝓤 H A (partAt T.the-row fullShare (with-lines h ys) b o))
+        (sem 𝓤 H A (partAt T.the-row fullShare (withLines h ys) b o))
     fill ys =
         record-fill-as T.the-type T′.the-laws 0 0 Lines (λ xs. xs) (λ xs. xs) to-same of-same
         (T.struct .as-values) (T.struct .Ghost) (T.struct .make) (λ v. tt) (λ x. refl) (λ v g. refl) refl M 𝓤 H A W h ys b o
@@ -96,13 +93,13 @@ module _ {M : Type 1} (𝓤 : URA M) (H : Heap 𝓤) (A : Atoms 𝓤) where
 
     pub lines-back : (γ₁ : GName) (ys : List ℕ)
         → ent 𝓤 (sep 𝓤 (A .dead κ′) (sep 𝓤 (mean 𝓤 H A (LentLines κ κ′ q γ b o γ₁ h)) (A .res γ₁ (Lines .coded .code ys))))
-        (H .⇛ (sep 𝓤 (sem 𝓤 H A (MutRef ℓ κ T.the-row .own (boardAt b o γ (with-lines h ys)) (vptr b o ∷ []))) (A .lft κ q)))
+        (H .⇛ (sep 𝓤 (sem 𝓤 H A (MutRef ℓ κ T.the-row .own (boardAt b o γ (withLines h ys)) (vptr b o ∷ []))) (A .lft κ q)))
     lines-back γ₁ ys =
         qed W (‵ (fdead κ′) ∷ LentLines κ κ′ q γ b o γ₁ h ∷ ‵ (fres γ₁ (Lines .coded .code ys)) ∷ []) ∵ updating ! $
         move ! (1 ∷ []) $ split ! $ move ! (2 ∷ 0 ∷ 3 ∷ []) $
         use3 W (later (‵ (partAt Lines fullShare ys b (o + 0)))) (ref-back 𝓤 H A W Lines κ′ γ₁ ys b (o + 0)) $ await ! tt $
         move ! (1 ∷ []) $ split ! $ move ! (1 ∷ []) $ split ! $ move ! (1 ∷ []) $ split ! $
         -- [auth γ; what is left of the board; obs γ; the open borrow at κ; the lines]
-        move ! (4 ∷ 1 ∷ []) $ use2 W (‵ (partAt T.the-row fullShare (with-lines h ys) b o)) (fill ys) $
-        move ! (0 ∷ 3 ∷ 2 ∷ 1 ∷ []) $ close-ref ! tt (mem T.the-row) (with-lines h ys) $ at-once ! $
+        move ! (4 ∷ 1 ∷ []) $ use2 W (‵ (partAt T.the-row fullShare (withLines h ys) b o)) (fill ys) $
+        move ! (0 ∷ 3 ∷ 2 ∷ 1 ∷ []) $ close-ref ! tt (mem T.the-row) (withLines h ys) $ at-once ! $
         feqI ! (List Val) (vptr b o ∷ []) (vptr b o ∷ []) refl $ fjoin3 ! $ done !

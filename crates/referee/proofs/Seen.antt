@@ -1,25 +1,22 @@
--- The eight views of what the referee answers, and the count of its list. Of a sound board b and a view v, the board in that view is
+-- The eight views of what the referee answers. Of a sound board b and a view v, the board in that view is
 -- the one that `Board::turned` hands back. Assumes nothing.
 use mathlib.Core.Path.{_≡_, ap, ap₂, sym, _∙_}
-use mathlib.Core.Bool.{not}
-use mathlib.Core.List.{List, [], _∷_}
-use Prim.Native.Nat.{ℕ, _/_, _<_}
-use native.Mathlib.Omega.{arith}
-use lib.ListN.{length, getD}
-use Rattle.rules.specs.Numbers.{verdictNo, isNone}
+use mathlib.Core.List.{List}
+use Prim.Native.Nat.{ℕ, _<_}
+use lib.ListN.{getD}
 use Rattle.rules.specs.Refusals.{first, unless}
-use Rattle.rules.specs.Bit.{countOf}
 use Rattle.rules.specs.Grid.{isEmpty}
 use Rattle.rules.specs.Forbidden.{strictOf, plainOf, forbiddenList}
 use Rattle.rules.specs.Views.{turn, turnCells, turnList}
-use Rattle.rules.proofs.Lists.{gather-count}
 use Rattle.rules.proofs.Turns.{turn-lt}
 use Rattle.rules.proofs.Views.{turned-cells, strict-view, plain-view, list-view}
 use Rattle.grid.proofs.Lines.{length-cellsOf, cells-cellsOf}
 use Rattle.board.specs.declared.board.Board.{Board}
 use Rattle.board.specs.Boards.{cells, boardOf, boardRefusal, refusalAt}
-use Rattle.board.proofs.Given.{at-point, board-sound, board-cells, turn-ok}
-use Rattle.referee.specs.Answers.{verdictAnswer, forbiddenRefusal}
+use Rattle.board.proofs.Given.{at-point, board-sound, board-cells}
+use Rattle.referee.specs.Answers.{forbiddenRefusal}
+use Rattle.rules.specs.Answers.{verdictAnswer}
+use Rattle.cells.proofs.Given.{turn-ok}
 
 module _ (v : ℕ) (b : Board) (hv : v < 8) (sound : boardRefusal b ≡ 0) where
   abbrev view : Board
@@ -57,10 +54,3 @@ module _ (v : ℕ) (b : Board) (hv : v < 8) (sound : boardRefusal b ≡ 0) where
   -- and the forbidden list is the turned list
   pub list-seen : forbiddenList (cells view) ≡ turnList v (forbiddenList (cells b))
   list-seen = ap forbiddenList seen ∙ list-view v (cells b) hv (length-cellsOf (b .lines))
-
--- the count that is given with the list is that of the forbidden points
-pub points-count : (cells : List ℕ) → length (forbiddenList cells) / 2 ≡ countOf 225 (λ p. not (isNone (strictOf cells p)))
-unfolding forbiddenList
-points-count cells =
-    let e = gather-count 2 225 (λ p. not (isNone (strictOf cells p))) (λ p. verdictNo (strictOf cells p) ∷ p ∷ []) (λ p. omega arith) in
-    omega arith

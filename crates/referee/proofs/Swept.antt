@@ -1,10 +1,9 @@
 -- The strict verdict by the marks of the points to ask about: none where there is no mark. Assumes nothing.
-use mathlib.Core.Path.{_≡_, refl, ap, sym, subst, _∙_}
-use mathlib.Core.Bool.{Bool, true, false, _&&_}
+use mathlib.Core.Path.{_≡_, ap, sym, subst, _∙_}
+use mathlib.Core.Bool.{Bool, false, _&&_}
 use mathlib.Core.List.{List, []}
 use Prim.Native.Nat.{ℕ, _+_, _-_, _/_, _%_, _≤_, _<_}
 use native.Mathlib.Omega.{arith}
-use lib.Dec.{T, eqb}
 use lib.ListN.{getD, length}
 use borrow.Author.Tests.{eq-eqb}
 use Rattle.rules.specs.Tools.{anyBelow, gather}
@@ -14,10 +13,9 @@ use Rattle.rules.specs.Grid.{isEmpty}
 use Rattle.rules.specs.Forbidden.{mayForbid, strictOf, entry, forbiddenList}
 use Rattle.rules.specs.declared.Verdict.{Verdict}
 use Rattle.rules.specs.declared.Verdict.the-variants.{None}
-use Rattle.rules.proofs.Logic.{no-true}
 use Rattle.rules.proofs.Lists.{gather-skip}
 use Rattle.rules.proofs.Bits.{bit-mask, bit-none}
-use Rattle.rules.proofs.Verdicts.{strict-taken, quiet-none}
+use Rattle.rules.proofs.Verdicts.{unasked-none}
 use Rattle.sweep.specs.Marks.{marks, askedAt}
 use Rattle.sweep.proofs.Marks.{mark-at, column-none}
 use Rattle.referee.specs.Referee.{columnsOf}
@@ -26,14 +24,8 @@ module _ (cells : List ℕ) (long : length cells ≡ 225) where
   pub mark-none : (p : ℕ) → p < 225 → askedAt cells p ≡ false → None ≡ strictOf cells p
   unfolding askedAt
   mark-none p hp e =
-      go (isEmpty (getD cells p 0)) (mayForbid cells p) refl refl
+      unasked-none cells p long hp
       (sym (ap (λ (b : Bool). b && isEmpty (getD cells p 0) && mayForbid cells p) (eq-eqb (length cells) 225 long)) ∙ e)
-    where
-      go : (a b : Bool) → isEmpty (getD cells p 0) ≡ a → mayForbid cells p ≡ b → (isEmpty (getD cells p 0) && mayForbid cells p) ≡ false
-          → None ≡ strictOf cells p
-      go false b ea eb h = strict-taken cells p long hp ea
-      go true false ea eb h = quiet-none cells p long hp eb
-      go true true ea eb h = absurd (no-true (sym h ∙ rw (ea, eb) refl))
 
   module _ {m : List ℕ} {columns : ℕ} (em : m ≡ marks (askedAt cells)) (ec : columns ≡ columnsOf m) where
     -- a column's bit is clear: so is every mark in it

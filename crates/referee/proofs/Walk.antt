@@ -2,7 +2,7 @@
 -- `g(lines: &mut [u16; 144], n: u8) -> R` meets its own. One walk of the MIR, whatever g is, and whether or not it has a `requires`.
 --     on, in-board     the two contracts. f asks of the board's lines what g asks, `asks`. g ensures P, f ensures Q
 --     lines-call       the call of g, the same in both walks: the board's lines are lent for it, and come back (`Lines.antt`)
---     thin, thin-unit  from g's theorem to f's, where `P n (h .lines) zs r` gives `Q n h (with-lines h zs) r`. Without a result the MIR
+--     thin, thin-unit  from g's theorem to f's, where `P n (h .lines) zs r` gives `Q n h (withLines h zs) r`. Without a result the MIR
 --                      calls g into a local of its own and then returns a unit, so that walk ends differently
 -- Assumes `Given`.
 use mathlib.Core.Path.{refl}
@@ -30,10 +30,11 @@ use denote.Steps.{peeks}
 use denote.Triple.Clauses.{closing}
 use denote.Triple.Spec.{Meets}
 use denote.Triple.Statement.{Triple}
+use Rattle.board.specs.Boards.{withLines}
 use Rattle.board.specs.declared.board.Board.{Board}
 use Rattle.board.proofs.board.Board as T
 use Rattle.board.proofs.board.Board.Laws as T′
-use Rattle.referee.proofs.Lines.{Lines, with-lines, LentLines, lends-lines, lines-back}
+use Rattle.referee.proofs.Lines.{Lines, LentLines, lends-lines, lines-back}
 use Rattle.referee.proofs.Lent.{Terms, ended, clauses, triple, has, Ends, exits, meets, lent-call}
 
 -- ---- the code
@@ -70,7 +71,7 @@ module _ {M : Type 1} (𝓤 : URA M) (R : RattleType) (asks : ℕ → List ℕ �
 -- ---- the walks
 module _ {M : Type 1} (𝓤 : URA M) (H : Heap 𝓤) (A : Atoms 𝓤) (W : Given 𝓤 H A) (R : RattleType) (asks : ℕ → List ℕ → SProp 𝓤)
     (P : ℕ → List ℕ → List ℕ → R .Denot → Type 0) (Q : ℕ → Board → Board → R .Denot → Type 0)
-    (gives : (n : ℕ) (h : Board) (zs : List ℕ) (r : R .Denot) → P n (h .lines) zs r → Q n h (with-lines h zs) r) where
+    (gives : (n : ℕ) (h : Board) (zs : List ℕ) (r : R .Denot) → P n (h .lines) zs r → Q n h (withLines h zs) r) where
   abbrev c : Terms 𝓤
   c = in-board 𝓤 R asks Q
 
@@ -82,10 +83,10 @@ module _ {M : Type 1} (𝓤 : URA M) (H : Heap 𝓤) (A : Atoms 𝓤) (W : Given
     lines-call : {K : Type 0} {Γ : List (Item 𝓤)} {E : Env 𝓤 H} {xs : List Operand} {s : Post 𝓤 H} {d : Place} → K → {rest : Body}
         → ((i : Item 𝓤) → Opds K W (i ∷ Γ) E xs (vptr b (o + 0) ∷ vint w8 n ∷ []))
         → ((w : Val) (r : R .Denot) (zs : List ℕ) → P n (h .lines) zs r
-        → Seq K W (holds (with-lines h zs) ∷ ‵ (R .own r (w ∷ [])) ∷ Γ) (lands C Λ E d w rest s))
+        → Seq K W (holds (withLines h zs) ∷ ‵ (R .own r (w ∷ [])) ∷ Γ) (lands C Λ E d w rest s))
         → Seq K W (holds h ∷ raw (asks n (h .lines)) ∷ Γ) (runs C Λ E (seq (call g xs d) rest) s)
     lines-call t =
-        lent-call t fm (on 𝓤 R asks P) known b (o + 0) n fits (h .lines) (holds h) (λ zs. holds (with-lines h zs))
+        lent-call t fm (on 𝓤 R asks P) known b (o + 0) n fits (h .lines) (holds h) (λ zs. holds (withLines h zs))
         (λ ν δ. LentLines 𝓤 H A κ (ν ∷ []) q γ b o δ h) (λ ν. lends-lines 𝓤 H A W κ (ν ∷ []) q γ b o (named 0) (named 0) h)
         (λ ν δ zs. lines-back 𝓤 H A W κ (ν ∷ []) q γ b o (named 0) (named 0) h δ zs)
 
@@ -108,7 +109,7 @@ module _ {M : Type 1} (𝓤 : URA M) (H : Heap 𝓤) (A : Atoms 𝓤) (W : Given
         move ! (1 ∷ []) $ peeks ! R (Is R) (shows 𝓤 H A R) r (w ∷ []) (λ is. land ! (from ! (stop !)) (init ! 8 refl (typed r w is)) $
         returns ! (look ! 8 refl) $ forget ! 2 refl $ forget ! 4 refl $ forget ! 6 refl $ forget ! 8 refl $
         move ! (8 ∷ 9 ∷ []) $ free1 ! $ move ! (6 ∷ 7 ∷ []) $ free1 ! $ move ! (4 ∷ 5 ∷ []) $ free1 ! $ move ! (2 ∷ 3 ∷ []) $ free1 ! $
-        free0 ! $ keep ! (1 ∷ 0 ∷ []) $ by ! (exits 𝓤 H A c κ q b o γ n W fits h r w (with-lines h zs) (gives n h zs r e))))))))
+        free0 ! $ keep ! (1 ∷ 0 ∷ []) $ by ! (exits 𝓤 H A c κ q b o γ n W fits h r w (withLines h zs) (gives n h zs r e))))))))
 
   pub thin : (𝓣 : Tables 𝓤 H) (g : Name) → Triple 𝓤 (𝓣 .C g) (triple 𝓤 H A (on 𝓤 R asks P)) → (ρ : Ty)
       → ((r : R .Denot) (v : Val) → Is R r (v ∷ []) → Holds (hasTy ρ v) × WT v)
@@ -119,7 +120,7 @@ module _ {M : Type 1} (𝓤 : URA M) (H : Heap 𝓤) (A : Atoms 𝓤) (W : Given
 
 module _ {M : Type 1} (𝓤 : URA M) (H : Heap 𝓤) (A : Atoms 𝓤) (W : Given 𝓤 H A) (asks : ℕ → List ℕ → SProp 𝓤)
     (P : ℕ → List ℕ → List ℕ → Unit {0} → Type 0) (Q : ℕ → Board → Board → Unit {0} → Type 0)
-    (gives : (n : ℕ) (h : Board) (zs : List ℕ) (r : Unit {0}) → P n (h .lines) zs r → Q n h (with-lines h zs) r) where
+    (gives : (n : ℕ) (h : Board) (zs : List ℕ) (r : Unit {0}) → P n (h .lines) zs r → Q n h (withLines h zs) r) where
   abbrev c₀ : Terms 𝓤
   c₀ = in-board 𝓤 unit asks Q
 
@@ -142,7 +143,7 @@ module _ {M : Type 1} (𝓤 : URA M) (H : Heap 𝓤) (A : Atoms 𝓤) (W : Given
       returns ! (look ! 10 refl) $ forget ! 2 refl $ forget ! 4 refl $ forget ! 6 refl $ forget ! 8 refl $ forget ! 10 refl $
       move ! (10 ∷ 11 ∷ []) $ free1 ! $ move ! (8 ∷ 9 ∷ []) $ free1 ! $ move ! (6 ∷ 7 ∷ []) $ free1 ! $ move ! (4 ∷ 5 ∷ []) $ free1 ! $
       move ! (2 ∷ 3 ∷ []) $ free1 ! $ free0 ! $ keep ! (1 ∷ []) $ feqI ! (List Val) (vunit ∷ []) (vunit ∷ []) refl $
-      move ! (1 ∷ 0 ∷ []) $ by ! (exits 𝓤 H A c₀ κ q b o γ n W fits h r vunit (with-lines h zs) (gives n h zs r e)))))))))
+      move ! (1 ∷ 0 ∷ []) $ by ! (exits 𝓤 H A c₀ κ q b o γ n W fits h r vunit (withLines h zs) (gives n h zs r e)))))))))
 
   pub thin-unit : (𝓣 : Tables 𝓤 H) (g : Name) → Triple 𝓤 (𝓣 .C g) (triple 𝓤 H A (on 𝓤 unit asks P))
       → Meets 𝓤 H A (ended 𝓤 c₀ .signature) (WpFn 𝓤 H (𝓣 .C) (𝓣 .Λ) (code-unit g)) (closing 𝓤 H A (ended 𝓤 c₀) (clauses 𝓤 c₀))

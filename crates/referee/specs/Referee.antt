@@ -1,6 +1,6 @@
 -- Section 5's questions as the code asks them. No public statement cites what is said here of masks or of lines.
 use mathlib.Core.Path.{_≡_}
-use mathlib.Core.Bool.{Bool, _&&_, cond}
+use mathlib.Core.Bool.{_&&_, cond}
 use mathlib.Core.List.{List}
 use Prim.Native.Nat.{ℕ, _<_}
 use lib.Dec.{T}
@@ -8,26 +8,18 @@ use lib.ListN.{getD}
 use Rattle.rules.specs.Tools.{anyBelow}
 use Rattle.rules.specs.Bit.{bit, maskOf}
 use Rattle.rules.specs.Point.{lineNo}
-use Rattle.rules.specs.Grid.{isEmpty, stoneAt, Starts, startMasks, startsOf, rowsThrough}
-use Rattle.rules.specs.Forbidden.{someRow, moreThanOne, withBlack, realDouble, isDoubleThree, firstKind, strictOf}
+use Rattle.rules.specs.Grid.{stoneAt, startMasks, startsOf, rowsThrough}
+use Rattle.rules.specs.Forbidden.{someRow, moreThanOne, withBlack, realDouble, firstKind, strictOf}
 use Rattle.rules.specs.declared.Player.{Player}
 use Rattle.rules.specs.declared.Player.the-variants.{Black}
-use Rattle.rules.specs.declared.RowKind.{RowKind}
 use Rattle.rules.specs.declared.RowKind.the-variants.{Two}
 use Rattle.rules.specs.declared.Verdict.{Verdict}
 use Rattle.rules.specs.declared.Verdict.the-variants.{None}
 use Rattle.point.specs.Places.{hasPlace}
 use Rattle.near.specs.declared.rows.Rows.{Rows}
 use Rattle.grid.specs.Lines.{cellsOf, Sound, writeOn}
+use Rattle.board.specs.Boards.{withLines}
 use Rattle.board.specs.declared.board.Board.{Board}
-
--- "DoubleThree: more than one Two through p, and on the board with Black at p more than one real Three through p", asked alone
-unfoldable pub doubleThreeAt : List ℕ → ℕ → Bool
-doubleThreeAt cells p = isEmpty (getD cells p 0) && isDoubleThree strictOf cells p
-
--- Black's rows of each kind through p
-abbrev pub blackRows : List ℕ → ℕ → RowKind → Starts
-blackRows cells p kind = rowsThrough Black kind cells p
 
 -- Section 5's order by the start masks of the rows through p; l is asked only where more than one Two goes through it
 unfoldable pub plainBy : List ℕ → ℕ → Rows → Verdict
@@ -54,4 +46,4 @@ columnsOf m = maskOf 16 (λ x. anyBelow 26 (λ i. bit (getD m i 0) x))
 
 -- the board with a cell's value written at a point of its lines
 abbrev pub writtenBoard : Board → ℕ → ℕ → Board
-writtenBoard b p v = record { lines = writeOn (b .lines) p v }
+writtenBoard b p v = withLines b (writeOn (b .lines) p v)

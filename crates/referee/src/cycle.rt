@@ -1,9 +1,9 @@
 // The strict question asks the plain one, which asks the strict one. The lines are lent to all of them: a trial stone is put, the question
 // asked on the same lines, and the stone taken off again. The board is not copied. Each turn has one empty point fewer.
-use super::eye::eye_of;
+use super::eye::eye_on;
 use super::rows::rows_on;
 use grid::add_on;
-use grid::cell_of;
+use grid::cell_on;
 use grid::lift_on;
 use near::Rows;
 use near::more_than_one;
@@ -14,11 +14,10 @@ use rules::Verdict;
 ghost use mathlib.Core.Path.{_≡_};
 ghost use Prim.Native.Nat.{_/_, _%_, _<_};
 ghost use lib.Dec.{T};
-ghost use Rattle.rules.specs.Grid.{startMasks, startsOf, rowsThrough};
+ghost use Rattle.rules.specs.Grid.{startMasks, startsOf, rowsThrough, numbered, nextFrom};
 ghost use Rattle.rules.specs.Forbidden.{moreThanOne, withBlack, strictOf, isReal, realThrees, realDouble};
 ghost use Rattle.rules.specs.declared.Player.the-variants.{Black};
 ghost use Rattle.rules.specs.declared.RowKind.the-variants.{Three};
-ghost use Rattle.near.specs.Places.{numbered, nextFrom};
 ghost use Rattle.grid.specs.Lines.{cellsOf, Sound};
 ghost use Rattle.referee.specs.Referee.{Triable, strictBy, plainBy};
 
@@ -28,7 +27,7 @@ pub(crate) fn strict(lines: &mut [u16; 144], code: u8) -> Verdict
     requires { ⌜ Sound (now lines) × (code < 225) ⌝ }
     ensures { λ r. ⌜ (r ≡ strictOf (cellsOf (now (lines .entry))) code) × (now (lines .exit) ≡ now (lines .entry)) ⌝ }
 {
-    if cell_of(lines, code) != 0 {
+    if cell_on(lines, code) != 0 {
         return Verdict::None;
     }
     let rows = rows_on(lines, code);
@@ -76,9 +75,9 @@ fn trial(lines: &mut [u16; 144], code: u8, twos: [u16; 4]) -> bool
     ensures { λ r. ⌜ (r ≡ realDouble strictOf (withBlack (cellsOf (now (lines .entry))) code) code)
         × (now (lines .exit) ≡ now (lines .entry)) ⌝ }
 {
-    add_on(lines, Player::Black, code);
+    add_on(lines, code, Player::Black);
     let real = two_real(lines, code, twos);
-    lift_on(lines, Player::Black, code);
+    lift_on(lines, code, Player::Black);
     real
 }
 
@@ -118,6 +117,6 @@ fn is_real(lines: &mut [u16; 144], code: u8, three: u8) -> bool
     ensures { λ r. ⌜ (r ≡ isReal strictOf (cellsOf (now (lines .entry))) code (three / 16) (three % 16))
         × (now (lines .exit) ≡ now (lines .entry)) ⌝ }
 {
-    let eye = eye_of(lines, code, three);
+    let eye = eye_on(lines, code, three);
     strict(lines, eye).is_none()
 }

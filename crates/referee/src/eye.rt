@@ -14,14 +14,14 @@ ghost use Rattle.rules.specs.declared.RowKind.the-variants.{Three};
 ghost use Rattle.grid.specs.Lines.{cellsOf, Sound};
 
 // Of the Three through a point that has this number: the first gap in Black's stones from its start on.
-pub(crate) fn eye_of(lines: &[u16; 144], code: u8, three: u8) -> u8
+pub(crate) fn eye_on(lines: &[u16; 144], code: u8, three: u8) -> u8
     requires { ⌜ Sound (now lines) × (code < 225) × (three < 64)
         × T (rowsThrough Black Three (cellsOf (now lines)) code (three / 16) (three % 16)) ⌝ }
     ensures { λ r. ⌜ r ≡ eyeOf (cellsOf (now (lines .entry))) code (three / 16) (three % 16) ⌝ }
 {
     let d = three / 16;
     let here = address(d, code);
-    let gap = first_gap(mask_on(lines, Player::Black, here.key), three % 16);
+    let gap = first_gap(mask_on(lines, here.key, Player::Black), three % 16);
     walked(code, here.cell, step_in(d), gap)
 }
 

@@ -1,31 +1,27 @@
 // The front, on a board by value and on cell bytes: each question tests what it is given, in section 2's order, and asks the referee.
 // Nothing that it is handed is changed.
-use super::answer::VerdictAnswer;
 use super::list::forbidden_pairs;
 use super::rows::plain_on;
 use super::single::strict_of;
 use super::thin::forbidden_strict_in;
 use super::thin::is_double_three_in;
 use board::Board;
-use board::cells_refusal;
-use grid::cell_of;
-use grid::cells_of;
-use lent::write_out;
-use point::code_refusal;
+use cells::cells_refusal;
+use cells::cells_refusal_at;
+use cells::hand_out;
+use grid::cell_on;
+use grid::cells_on;
 use rules::CountAnswer;
 use rules::TestAnswer;
-use rules::first;
+use rules::VerdictAnswer;
 use rules::unless;
 ghost use mathlib.Core.Path.{_≡_};
-ghost use Rattle.rules.specs.Refusals.{first};
-ghost use Rattle.rules.specs.Answers.{testAnswer};
-ghost use Rattle.rules.specs.Forbidden.{strictOf, plainOf, forbiddenList};
+ghost use Rattle.rules.specs.Answers.{testAnswer, verdictAnswer};
+ghost use Rattle.rules.specs.Forbidden.{strictOf, plainOf, forbiddenList, doubleThreeAt};
 ghost use Rattle.lent.specs.Lists.{counted, listOut};
-ghost use Rattle.point.specs.Points.{codeRefusal};
-ghost use Rattle.grid.proofs.Lines.{Cells};
-ghost use Rattle.board.specs.Boards.{cells, boardRefusal, cellsRefusal, refusalAt};
-ghost use Rattle.referee.specs.Referee.{doubleThreeAt};
-ghost use Rattle.referee.specs.Answers.{verdictAnswer, forbiddenRefusal};
+ghost use Rattle.board.specs.Boards.{cells, boardRefusal, refusalAt};
+ghost use Rattle.referee.specs.Answers.{forbiddenRefusal};
+ghost use Rattle.cells.specs.Cells.{Cells, cellsRefusal, cellsRefusalAt};
 
 // The plain verdict at an empty point.
 pub fn forbidden(board: Board, code: u8) -> VerdictAnswer
@@ -50,10 +46,9 @@ pub fn forbidden_strict(board: Board, code: u8) -> VerdictAnswer
 // The same of a board given as cell bytes: once they are tested, only the four lines through the point are read, unless there may be a
 // trial.
 pub fn forbidden_strict_of(cells: &[u8], code: u8) -> VerdictAnswer
-    ensures { λ r. ⌜ r
-        ≡ verdictAnswer (first (cellsRefusal (now (cells .entry))) (codeRefusal code)) (strictOf (now (cells .entry)) code) ⌝ }
+    ensures { λ r. ⌜ r ≡ verdictAnswer (cellsRefusalAt (now (cells .entry)) code) (strictOf (now (cells .entry)) code) ⌝ }
 {
-    let refused = first(cells_refusal(cells), code_refusal(code));
+    let refused = cells_refusal_at(cells, code);
     if refused != 0 {
         return VerdictAnswer::Refused(refused);
     }
@@ -78,7 +73,7 @@ pub fn forbidden_points(board: Board, out: &mut [u8]) -> CountAnswer
         return CountAnswer::Refused(refused);
     }
     let lines = board.lines;
-    let cells = cells_of(&lines);
+    let cells = cells_on(&lines);
     listed(&cells, out)
 }
 
@@ -102,8 +97,7 @@ fn listed(cells: &[u8], out: &mut [u8]) -> CountAnswer
 {
     let found = forbidden_pairs(cells);
     let bytes = found.bytes;
-    let refusal = write_out(0, out, &bytes, found.len);
-    CountAnswer::of(refusal, (found.len / 2) as u16)
+    hand_out(0, &bytes, found.len, (found.len / 2) as u16, out)
 }
 
 // 9, 8, then 11 for an occupied point, where the plain verdict is not asked.
@@ -115,5 +109,5 @@ fn forbidden_refusal(board: Board, code: u8) -> u8
         return refused;
     }
     let lines = board.lines;
-    unless(cell_of(&lines, code) == 0, 11)
+    unless(cell_on(&lines, code) == 0, 11)
 }

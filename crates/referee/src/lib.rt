@@ -1,6 +1,5 @@
 // The referee of forbidden.rs: a cycle of calls that asks on lent lines in place, and gives them back as they were. What needs no nested
 // question is seen by `near` at one point, and by `sweep` at all points at once.
-mod answer;
 mod cycle;
 mod eye;
 mod front;
@@ -10,7 +9,6 @@ mod rows;
 mod single;
 mod thin;
 
-pub use answer::VerdictAnswer;
 pub use front::forbidden;
 pub use front::forbidden_points;
 pub use front::forbidden_points_of;

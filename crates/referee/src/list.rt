@@ -16,9 +16,9 @@ ghost use Rattle.rules.specs.Numbers.{isNone};
 ghost use Rattle.rules.specs.Forbidden.{strictOf, forbiddenList};
 ghost use Rattle.lent.specs.Lists.{Held};
 ghost use Rattle.grid.specs.Lines.{linesOf};
-ghost use Rattle.grid.proofs.Lines.{Cells};
 ghost use Rattle.sweep.specs.Marks.{marks, askedAt};
 ghost use Rattle.referee.specs.Referee.{columnsOf};
+ghost use Rattle.cells.specs.Cells.{Cells};
 
 // At most 225 pairs of a kind and a code, with how many bytes they are.
 pub(crate) struct Pairs {

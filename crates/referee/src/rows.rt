@@ -1,7 +1,7 @@
 // Black's rows through a point of the stored lines, as four start masks for each kind.
 use super::cycle::plain;
 use super::cycle::two_real;
-use grid::masks_through;
+use grid::masks_on;
 use grid::put_on;
 use grid::row_starts_on;
 use near::Rows;
@@ -12,10 +12,9 @@ use rules::Verdict;
 ghost use mathlib.Core.Path.{_≡_};
 ghost use Prim.Native.Nat.{_<_};
 ghost use lib.ListN.{getD};
-ghost use Rattle.rules.specs.Forbidden.{strictOf, plainOf, realDouble};
+ghost use Rattle.rules.specs.Forbidden.{strictOf, plainOf, realDouble, blackRows};
 ghost use Rattle.near.specs.Rows.{RowsAre};
 ghost use Rattle.grid.specs.Lines.{cellsOf, Sound, writeOn};
-ghost use Rattle.referee.specs.Referee.{blackRows};
 
 // The four kinds that the verdict is told by.
 pub(crate) fn rows_on(lines: &[u16; 144], code: u8) -> Rows
@@ -23,8 +22,8 @@ pub(crate) fn rows_on(lines: &[u16; 144], code: u8) -> Rows
     ensures { λ r. ⌜ RowsAre (blackRows (cellsOf (now (lines .entry))) code) r ⌝ }
 {
     rows_near(
-        masks_through(lines, Player::Black, code),
-        masks_through(lines, Player::White, code),
+        masks_on(lines, code, Player::Black),
+        masks_on(lines, code, Player::White),
         code,
         true,
     )
@@ -52,5 +51,5 @@ pub(crate) fn real_on(lines: &mut [u16; 144], code: u8) -> bool
 pub(crate) fn put_black(lines: &mut [u16; 144], code: u8)
     ensures { λ _. ⌜ now (lines .exit) ≡ writeOn (now (lines .entry)) code 1 ⌝ }
 {
-    put_on(lines, Player::Black, code);
+    put_on(lines, code, Player::Black);
 }

@@ -17,13 +17,12 @@ ghost use lib.Dec.{eqb};
 ghost use Rattle.rules.specs.Bit.{bit, maskOf};
 ghost use Rattle.rules.specs.Point.{lineNo};
 ghost use Rattle.rules.specs.Grid.{stoneAt, startsOf};
-ghost use Rattle.rules.specs.Forbidden.{strictOf, someRow, moreThanOne};
+ghost use Rattle.rules.specs.Forbidden.{strictOf, someRow, moreThanOne, blackRows};
 ghost use Rattle.rules.specs.declared.Player.the-variants.{Black, White};
 ghost use Rattle.near.specs.Rows.{RowsAre};
 ghost use Rattle.lent.specs.Lists.{zeros};
 ghost use Rattle.grid.specs.Lines.{linesOf};
-ghost use Rattle.grid.proofs.Lines.{Cells};
-ghost use Rattle.referee.specs.Referee.{blackRows};
+ghost use Rattle.cells.specs.Cells.{Cells};
 
 // The masks of one line.
 struct LineStones {
@@ -81,10 +80,10 @@ fn rows_of(cells: &[u8], code: u8) -> Rows
     requires { ⌜ Cells (now cells) × (code < 225) ⌝ }
     ensures { λ r. ⌜ RowsAre (blackRows (now (cells .entry)) code) r ⌝ }
 {
-    let v = stones_in(cells, 0, code);
-    let h = stones_in(cells, 1, code);
-    let a = stones_in(cells, 2, code);
-    let d = stones_in(cells, 3, code);
+    let v = stones_along(cells, 0, code);
+    let h = stones_along(cells, 1, code);
+    let a = stones_along(cells, 2, code);
+    let d = stones_along(cells, 3, code);
     rows_near(
         [v.blacks, h.blacks, a.blacks, d.blacks],
         [v.whites, h.whites, a.whites, d.whites],
@@ -94,7 +93,7 @@ fn rows_of(cells: &[u8], code: u8) -> Rows
 }
 
 // The stones on the line through a point in one direction, cell by cell.
-fn stones_in(cells: &[u8], d: u8, code: u8) -> LineStones
+fn stones_along(cells: &[u8], d: u8, code: u8) -> LineStones
     requires { ⌜ Cells (now cells) × (code < 225) × (d < 4) ⌝ }
     ensures { λ r. ⌜ (r .blacks ≡ maskOf 16 (stoneAt Black (now (cells .entry)) d (lineNo d code)))
         × (r .whites ≡ maskOf 16 (stoneAt White (now (cells .entry)) d (lineNo d code))) ⌝ }

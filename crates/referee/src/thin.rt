@@ -1,5 +1,4 @@
 // The referee on a lent board: thin functions, each of which lends the board's lines on for one call, and the trial made of them.
-use super::answer::VerdictAnswer;
 use super::on_lines::may_try;
 use super::on_lines::strict_on;
 use super::rows::put_black;
@@ -7,16 +6,17 @@ use super::rows::real_on;
 use board::Board;
 use grid::remove_on;
 use rules::TestAnswer;
+use rules::VerdictAnswer;
 ghost use mathlib.Core.Path.{_≡_};
 ghost use Prim.Native.Nat.{_<_};
 ghost use lib.ListN.{getD};
-ghost use Rattle.rules.specs.Answers.{testAnswer};
+ghost use Rattle.rules.specs.Answers.{testAnswer, verdictAnswer};
 ghost use Rattle.rules.specs.Grid.{isEmpty};
-ghost use Rattle.rules.specs.Forbidden.{withBlack, strictOf, realDouble};
+ghost use Rattle.rules.specs.Forbidden.{withBlack, strictOf, realDouble, doubleThreeAt};
 ghost use Rattle.grid.specs.Lines.{Sound};
 ghost use Rattle.board.specs.Boards.{cells, refusalAt};
-ghost use Rattle.referee.specs.Referee.{writtenBoard, doubleThreeAt};
-ghost use Rattle.referee.specs.Answers.{verdictAnswer, isYes};
+ghost use Rattle.referee.specs.Referee.{writtenBoard};
+ghost use Rattle.referee.specs.Answers.{isYes};
 
 // Black's trial stone put on a lent board.
 pub(crate) fn put_in(b: &mut Board, code: u8)

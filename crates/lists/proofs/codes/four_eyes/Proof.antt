@@ -8,7 +8,8 @@ use Rattle.rules.specs.Grid.{fourEyes, eyesIn}
 use Rattle.grid.specs.Lines.{cellsOf}
 use Rattle.lent.specs.Lists.{zeros, Wrote}
 use Rattle.lent.proofs.Laws.{wrote-start, wrote-length, wrote-part}
-use Rattle.lists.proofs.Kept.{eyes-short, parts-place, parts-end}
+use Rattle.lists.proofs.Kept.{eyes-short}
+use Rattle.cells.proofs.Kept.{parts-place, parts-end}
 use Rattle.lists.proofs.codes.four_eyes.Statement.{statement}
 use Rattle.lists.proofs.codes.four_eyes.Tie as tie
 

@@ -14,10 +14,10 @@ use Rattle.lists.proofs.codes.keep_cells.Statement.{statement}
 use Rattle.lists.proofs.codes.keep_cells.Tie as tie
 
 abbrev Inv-loop : tie.InvT-loop
-Inv-loop buf₀ n d i cells size m₀ j₀ buf m j = (j ≤ size) × Wrote buf₀ n (gather j (cellItem d i (bit cells))) buf m
+Inv-loop d i cells buf₀ n size m₀ j₀ buf m j = (j ≤ size) × Wrote buf₀ n (gather j (cellItem d i (bit cells))) buf m
 
 abbrev μ-loop : tie.MeasureT-loop
-μ-loop buf₀ n d i cells size m₀ j₀ buf m j = size - j
+μ-loop d i cells buf₀ n size m₀ j₀ buf m j = size - j
 
 line-size-requires : tie.Need-line-size-requires Inv-loop μ-loop
 line-size-requires c κs = search needs

@@ -12,8 +12,8 @@ use borrow.Author.Needs.{needs}
 use Rattle.lists.proofs.codes.keep_eyes.Statement.{statement}
 use Rattle.lists.proofs.codes.keep_eyes.Tie as tie
 
-eyes-in-requires : tie.Need-eyes-in-requires
-eyes-in-requires c κs = search needs
+eyes-along-requires : tie.Need-eyes-along-requires
+eyes-along-requires c κs = search needs
 
 line-no-requires : tie.Need-line-no-requires
 line-no-requires c κs = search needs
@@ -22,7 +22,7 @@ keep-cells-requires : tie.Need-keep-cells-requires
 keep-cells-requires c κs =
     let s = c .before .before .before .before in
     let h = s .pre in
-    (h .2, rw (c .line-no .ensures) (line-here (s .args .d) (s .args .code) (h .2) (h .1)), h .3)
+    (h .2, rw (c .before .line-no .ensures) (line-here (s .args .d) (s .args .code) (h .2) (h .1)), h .3)
 
 same-length : tie.Need-same-length
 same-length c = search needs
@@ -31,10 +31,10 @@ returns : tie.Need-returns
 returns c =
     let a = c .before .before .before .before .before .before .before .args in
     wrote-as (c .before .before .keep-cells .ensures)
-    (ap₂ (λ (i m : ℕ). cellList (a .d) i (bit m)) (c .before .before .before .line-no .ensures)
-    (c .before .before .before .before .before .eyes-in .ensures)
+    (ap₂ (λ (i m : ℕ). cellList (a .d) i (bit m)) (c .before .before .before .before .line-no .ensures)
+    (c .before .before .before .before .before .eyes-along .ensures)
     ∙ eye-list (a .player) (cellsOf (now (a .lines))) (a .code) (a .d))
 
 pub keep-eyes-spec : {M : Type 1} → statement M
 keep-eyes-spec =
-    tie.close (tie.spec eyes-in-requires line-no-requires keep-cells-requires same-length returns)
+    tie.close (tie.spec eyes-along-requires line-no-requires keep-cells-requires same-length returns)

@@ -1,41 +1,50 @@
--- `lists::front::empty_points` meets its contract: the points that hold 0 are collected, then handed out. Assumes nothing.
-use native.Mathlib.Omega.{arith}
+-- `lists::front::empty_points` meets its contract: refused, or asked of the cells that the board shows. Assumes nothing.
+use mathlib.Core.Path.{ap, sym, _∙_}
+use Rattle.rules.specs.Grid.{emptyPoints}
+use denote.Ref.{now}
+use Rattle.cells.specs.Cells.{cellsRefusal}
+use Rattle.lent.proofs.Laws.{turned-down}
+use Rattle.lists.proofs.Open.{asked-list, cells-asked}
 use borrow.Author.Needs.{needs}
-use Rattle.lent.proofs.Laws.{held-as, held-le, handed}
-use Rattle.lists.proofs.Shown.{empty-list}
 use Rattle.lists.proofs.front.empty_points.Statement.{statement}
 use Rattle.lists.proofs.front.empty_points.Tie as tie
 
 refusal-requires : tie.Need-refusal-requires
 refusal-requires c κs = search needs
 
-points-with-requires : tie.Need-points-with-requires
-points-with-requires c κs = search needs
+returns : tie.Need-returns
+returns c = let a = c .before .before .before .args in turned-down 1 _ _ (c .before .refusal .ensures) (c .if1 .taken)
 
-slice-aggregate-hand-out : tie.Need-slice-aggregate-hand-out
-slice-aggregate-hand-out c = search needs
+cells-on-requires : tie.Need-cells-on-requires
+cells-on-requires c κs = search needs
 
-hand-out-requires : tie.Need-hand-out-requires
-hand-out-requires c κs = (omega arith, omega (arith, held-le 225 (c .before .before .before .points-with .ensures) (search needs)))
+slice-aggregate-empty-points-of : tie.Need-slice-aggregate-empty-points-of
+slice-aggregate-empty-points-of c = search needs
+
+empty-points-of-requires : tie.Need-empty-points-of-requires
+empty-points-of-requires c κs = search needs
 
 same-length : tie.Need-same-length
 same-length c = search needs
 
-returns : tie.Need-returns
-returns c =
-    let s = c .before .before .before .before .before .before in
-    let a = s .before .before .before .before .before .args in
-    handed 1 _ _ (s .before .before .before .refusal .ensures) 225
-    (held-as 225 (s .points-with .ensures) (empty-list (a .board .lines)))
-    (c .before .before .hand-out .ensures)
+returns-2 : tie.Need-returns-2
+returns-2 c =
+    let s = c .before .before in
+    let o = s .before .before .before in
+    let i = o .before .before .before in
+    let a = i .before .before .before .args in
+    let shown = o .cells-on .ensures in
+    let none = sym (i .before .refusal .ensures) ∙ i .if1 .left in
+    asked-list (now (a .out)) (ap cellsRefusal shown ∙ cells-asked (a .board) none) (ap emptyPoints shown) (s .empty-points-of .ensures)
 
 pub empty-points-spec : {M : Type 1} → statement M
 empty-points-spec =
     tie.close
     (tie.spec
     refusal-requires
-    points-with-requires
-    slice-aggregate-hand-out
-    hand-out-requires
+    returns
+    cells-on-requires
+    slice-aggregate-empty-points-of
+    empty-points-of-requires
     same-length
-    returns)
+    returns-2)

@@ -17,11 +17,11 @@ rows-on-refusal-requires c κs = search needs
 returns : tie.Need-returns
 returns c = turned-down 4 _ _ (c .before .rows-on-refusal .ensures) (c .if1 .taken)
 
-of-requires : tie.Need-of-requires
-of-requires c κs = search needs
+or-white-requires : tie.Need-or-white-requires
+or-white-requires c κs = search needs
 
-of-requires-2 : tie.Need-of-requires-2
-of-requires-2 c κs = search needs
+or-overlined-requires : tie.Need-or-overlined-requires
+or-overlined-requires c κs = search needs
 
 rows-through-requires : tie.Need-rows-through-requires
 rows-through-requires c κs =
@@ -32,20 +32,23 @@ rows-through-requires c κs =
 slice-aggregate-hand-out : tie.Need-slice-aggregate-hand-out
 slice-aggregate-hand-out c = search needs
 
+cast-hand-out : tie.Need-cast-hand-out
+cast-hand-out c = record { fits = omega (arith, held-le 240 (c .before .before .before .rows-through .ensures) (search needs)) }
+
 hand-out-requires : tie.Need-hand-out-requires
-hand-out-requires c κs = (omega arith, omega (arith, held-le 240 (c .before .before .before .rows-through .ensures) (search needs)))
+hand-out-requires c κs = search needs
 
 same-length : tie.Need-same-length
 same-length c = search needs
 
 returns-2 : tie.Need-returns-2
 returns-2 c =
-    let s = c .before .before .before .before .before .before in
+    let s = c .before .before .before .before .before .before .before in
     let a = s .before .before .before .before .before .before .before .before .args in
     handed 4 _ _ (s .before .before .before .before .before .before .rows-on-refusal .ensures) 240
     (held-as 240 (s .rows-through .ensures)
-    (ap₂ (λ (r : Player) (k : RowKind). rowsOnPoint r k (cells (a .board)) (a .code)) (s .before .before .of .ensures)
-    (s .before .of2 .ensures)))
+    (ap₂ (λ (r : Player) (k : RowKind). rowsOnPoint r k (cells (a .board)) (a .code)) (s .before .before .or-white .ensures)
+    (s .before .or-overlined .ensures)))
     (c .before .before .hand-out .ensures)
 
 pub rows-on-spec : {M : Type 1} → statement M
@@ -54,10 +57,11 @@ rows-on-spec =
     (tie.spec
     rows-on-refusal-requires
     returns
-    of-requires
-    of-requires-2
+    or-white-requires
+    or-overlined-requires
     rows-through-requires
     slice-aggregate-hand-out
+    cast-hand-out
     hand-out-requires
     same-length
     returns-2)

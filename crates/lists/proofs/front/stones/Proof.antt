@@ -1,55 +1,53 @@
--- `lists::front::stones` meets its contract: the points that hold the colour's number are collected, then handed out. Assumes nothing.
-use mathlib.Core.Path.{ap, _∙_}
-use native.Mathlib.Omega.{arith}
-use borrow.Author.Needs.{needs}
-use Rattle.rules.specs.Numbers.{colourNo}
+-- `lists::front::stones` meets its contract: refused, or asked of the cells that the board shows. Assumes nothing.
+use mathlib.Core.Path.{ap, sym, _∙_}
+use mathlib.Core.List.{List}
+use Prim.Native.Nat.{ℕ}
+use Rattle.rules.specs.Numbers.{playerOf}
 use Rattle.rules.specs.Grid.{stonesOf}
-use Rattle.board.specs.Boards.{cells}
-use Rattle.lent.proofs.Laws.{held-as, held-le, handed}
-use Rattle.lists.specs.Lists.{valueList}
+use denote.Ref.{now}
+use Rattle.cells.specs.Cells.{cellsStonesRefusal}
+use Rattle.lent.proofs.Laws.{turned-down}
+use Rattle.lists.proofs.Open.{asked-list, stones-turned, stones-asked}
+use borrow.Author.Needs.{needs}
 use Rattle.lists.proofs.front.stones.Statement.{statement}
 use Rattle.lists.proofs.front.stones.Tie as tie
 
-stones-refusal-requires : tie.Need-stones-refusal-requires
-stones-refusal-requires c κs = search needs
+refusal-requires : tie.Need-refusal-requires
+refusal-requires c κs = search needs
 
-of-requires : tie.Need-of-requires
-of-requires c κs = search needs
+returns : tie.Need-returns
+returns c = let a = c .before .before .before .args in turned-down 1 _ _ (stones-turned (a .board) _ (c .before .refusal .ensures) (c .if1 .taken) (a .colour)) (c .if1 .taken)
 
-number-requires : tie.Need-number-requires
-number-requires c κs = search needs
+cells-on-requires : tie.Need-cells-on-requires
+cells-on-requires c κs = search needs
 
-points-with-requires : tie.Need-points-with-requires
-points-with-requires c κs = search needs
+slice-aggregate-stones-of : tie.Need-slice-aggregate-stones-of
+slice-aggregate-stones-of c = search needs
 
-slice-aggregate-hand-out : tie.Need-slice-aggregate-hand-out
-slice-aggregate-hand-out c = search needs
-
-hand-out-requires : tie.Need-hand-out-requires
-hand-out-requires c κs = (omega arith, omega (arith, held-le 225 (c .before .before .before .points-with .ensures) (search needs)))
+stones-of-requires : tie.Need-stones-of-requires
+stones-of-requires c κs = search needs
 
 same-length : tie.Need-same-length
 same-length c = search needs
 
-returns : tie.Need-returns
-unfolding valueList stonesOf
-returns c =
-    let s = c .before .before .before .before .before .before in
-    let a = s .before .before .before .before .before .before .before .args in
-    handed 1 _ _ (s .before .before .before .before .before .stones-refusal .ensures) 225
-    (held-as 225 (s .points-with .ensures)
-    (ap (valueList (cells (a .board))) (s .before .number .ensures ∙ ap colourNo (s .before .before .of .ensures))))
-    (c .before .before .hand-out .ensures)
+returns-2 : tie.Need-returns-2
+returns-2 c =
+    let s = c .before .before in
+    let o = s .before .before .before in
+    let i = o .before .before .before in
+    let a = i .before .before .before .args in
+    let shown = o .cells-on .ensures in
+    let none = sym (i .before .refusal .ensures) ∙ i .if1 .left in
+    asked-list (now (a .out)) (ap (λ (x : List ℕ). cellsStonesRefusal x (a .colour)) shown ∙ stones-asked (a .board) none (a .colour)) (ap (stonesOf (playerOf (a .colour))) shown) (s .stones-of .ensures)
 
 pub stones-spec : {M : Type 1} → statement M
 stones-spec =
     tie.close
     (tie.spec
-    stones-refusal-requires
-    of-requires
-    number-requires
-    points-with-requires
-    slice-aggregate-hand-out
-    hand-out-requires
+    refusal-requires
+    returns
+    cells-on-requires
+    slice-aggregate-stones-of
+    stones-of-requires
     same-length
-    returns)
+    returns-2)

@@ -8,7 +8,8 @@ use Rattle.rules.specs.Grid.{rowsOf, keyRows}
 use Rattle.grid.specs.Lines.{cellsOf}
 use Rattle.lent.specs.Lists.{zeros, Wrote}
 use Rattle.lent.proofs.Laws.{wrote-start, wrote-length, wrote-part}
-use Rattle.lists.proofs.Kept.{rows-short, parts-place, parts-end}
+use Rattle.lists.proofs.Kept.{rows-short}
+use Rattle.cells.proofs.Kept.{parts-place, parts-end}
 use Rattle.lists.proofs.row_bytes.all_rows.Statement.{statement}
 use Rattle.lists.proofs.row_bytes.all_rows.Tie as tie
 

@@ -18,11 +18,11 @@ use Rattle.lists.proofs.row_bytes.keep_rows.Statement.{statement}
 use Rattle.lists.proofs.row_bytes.keep_rows.Tie as tie
 
 abbrev Inv-loop : tie.InvT-loop
-Inv-loop buf₀ n key my op kind starts size empty m₀ j₀ buf m j = (j ≤ size)
+Inv-loop key my op kind starts buf₀ n size empty m₀ j₀ buf m j = (j ≤ size)
     × Wrote buf₀ n (gather j (rowItem key (bit my) (bit op) kind (bit starts))) buf m
 
 abbrev μ-loop : tie.MeasureT-loop
-μ-loop buf₀ n key my op kind starts size empty m₀ j₀ buf m j = size - j
+μ-loop key my op kind starts buf₀ n size empty m₀ j₀ buf m j = size - j
 
 key-size-requires : tie.Need-key-size-requires Inv-loop μ-loop
 key-size-requires c κs = search needs

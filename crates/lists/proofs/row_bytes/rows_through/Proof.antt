@@ -8,7 +8,8 @@ use Rattle.rules.specs.Grid.{rowsOnPoint, rowsIn}
 use Rattle.grid.specs.Lines.{cellsOf}
 use Rattle.lent.specs.Lists.{zeros, Wrote}
 use Rattle.lent.proofs.Laws.{wrote-start, wrote-length, wrote-part}
-use Rattle.lists.proofs.Kept.{rows-short, parts-place, parts-end}
+use Rattle.lists.proofs.Kept.{rows-short}
+use Rattle.cells.proofs.Kept.{parts-place, parts-end}
 use Rattle.lists.proofs.row_bytes.rows_through.Statement.{statement}
 use Rattle.lists.proofs.row_bytes.rows_through.Tie as tie
 
@@ -23,11 +24,11 @@ loop-holds : tie.Need-loop-holds Inv-loop μ-loop
 unfolding zeros
 loop-holds c = (omega arith, wrote-start 240 _)
 
-slice-aggregate-keep-rows-in : tie.Need-slice-aggregate-keep-rows-in Inv-loop μ-loop
-slice-aggregate-keep-rows-in c = wrote-length 240 (c .before .before .loop .inv .1)
+slice-aggregate-keep-rows-along : tie.Need-slice-aggregate-keep-rows-along Inv-loop μ-loop
+slice-aggregate-keep-rows-along c = wrote-length 240 (c .before .before .loop .inv .1)
 
-keep-rows-in-requires : tie.Need-keep-rows-in-requires Inv-loop μ-loop
-keep-rows-in-requires c κs =
+keep-rows-along-requires : tie.Need-keep-rows-along-requires Inv-loop μ-loop
+keep-rows-along-requires c κs =
     let s = c .before .before in
     let a = s .before .args in
     let h = s .before .pre in
@@ -45,7 +46,7 @@ loop-less c = search needs
 loop-again : tie.Need-loop-again Inv-loop μ-loop
 loop-again c =
     let s = c .before .before .before .before in
-    (omega arith, wrote-part _ (s .loop .d) (s .loop .inv .1) (c .before .keep-rows-in .ensures))
+    (omega arith, wrote-part _ (s .loop .d) (s .loop .inv .1) (c .before .keep-rows-along .ensures))
 
 returns : tie.Need-returns Inv-loop μ-loop
 unfolding rowsOnPoint
@@ -62,8 +63,8 @@ rows-through-spec =
     Inv-loop
     μ-loop
     loop-holds
-    slice-aggregate-keep-rows-in
-    keep-rows-in-requires
+    slice-aggregate-keep-rows-along
+    keep-rows-along-requires
     add-d
     loop-less
     loop-again

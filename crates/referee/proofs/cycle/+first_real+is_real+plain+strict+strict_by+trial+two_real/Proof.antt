@@ -7,21 +7,20 @@ use lib.Dec.{T}
 use borrow.Author.Needs.{needs}
 use borrow.Author.Tests.{eq-eqb}
 use Rattle.rules.specs.Numbers.{isNone}
-use Rattle.rules.specs.Grid.{empties, startsOf, rowsThrough}
+use Rattle.rules.specs.Grid.{empties, startsOf, rowsThrough, numbered, nextFrom}
 use Rattle.rules.specs.Forbidden.{mayPlay, isReal, realThrees, strictOf, realDouble}
 use Rattle.rules.specs.declared.Player.the-variants.{Black}
 use Rattle.rules.specs.declared.RowKind.the-variants.{Three}
 use Rattle.rules.proofs.Logic.{true-T}
 use Rattle.rules.proofs.Gap.{real-eye}
-use Rattle.near.specs.Places.{numbered, nextFrom}
-use Rattle.near.proofs.Next.{next-ge, next-past}
 use Rattle.grid.specs.Lines.{cellsOf, Sound}
 use Rattle.grid.proofs.Lines.{length-cellsOf}
 use Rattle.referee.specs.Referee.{plainBy, strictBy}
 use Rattle.referee.proofs.RowsSeen.{strict-is, triable}
 use Rattle.referee.proofs.EyeFound.{eye-small}
-use Rattle.referee.proofs.Search.{to-start, three-there, found, passed, real-one, real-two}
 use Rattle.referee.proofs.Asked.{cell-is, free-is, asked-taken, on-sound, on-cells, on-fewer, on-threes, added, lifted, fewer}
+use Rattle.rules.proofs.Numbered.{next-ge, next-past}
+use Rattle.rules.proofs.Search.{to-start, three-there, found, passed, real-one, real-two}
 use Prim.Native.Nat.{ℕ, _+_, _-_, _*_, _/_, _%_, _<_}
 use borrow.Fn.Kinds.{In}
 use borrow.Fn.PlainCycle.{Measures, is, falls, and}
@@ -46,13 +45,13 @@ use Rattle.referee.proofs.cycle.+first_real+is_real+plain+strict+strict
 use Rattle.referee.proofs.cycle.two_real.Reads as two-real
 use Rattle.referee.proofs.cycle.two_real.Kinds as two-real-kinds
 use Rattle.referee.proofs.cycle.+first_real+is_real+plain+strict+strict_by+trial+two_real.Lts-two_real as two-real-lts
-use Rattle.grid.proofs.cell_of.Reads as cell-of-reads
+use Rattle.grid.proofs.cell_on.Reads as cell-on-reads
 use Rattle.grid.proofs.add_on.Reads as add-on-reads
 use Rattle.grid.proofs.lift_on.Reads as lift-on-reads
 use Rattle.near.proofs.more_than_one.Reads as more-than-one-reads
 use Rattle.near.proofs.next_start.Reads as next-start-reads
 use Rattle.near.proofs.some_row.Reads as some-row-reads
-use Rattle.referee.proofs.eye.eye_of.Reads as eye-of-reads
+use Rattle.referee.proofs.eye.eye_on.Reads as eye-on-reads
 use Rattle.referee.proofs.rows.rows_on.Reads as rows-on-reads
 use Rattle.rules.proofs.Verdict.is_none.Reads as is-none-reads
 use Rattle.referee.proofs.cycle.+first_real+is_real+plain+strict+strict_by+trial+two_real.{
@@ -145,7 +144,7 @@ first-real-calls t = (next-start-reads.Asked, next-start-reads.Learnt, is-real-b
 
 -- what `is-real` is told of those that it calls
 abbrev is-real-calls : ℕ → is-real-lts.Claims
-is-real-calls t = (eye-of-reads.Asked, eye-of-reads.Learnt, strict-below t, strict.Post, is-none-reads.Asked, is-none-reads.Learnt)
+is-real-calls t = (eye-on-reads.Asked, eye-on-reads.Learnt, strict-below t, strict.Post, is-none-reads.Asked, is-none-reads.Learnt)
 
 -- what `plain` is told of those that it calls
 abbrev plain-calls : ℕ → plain-lts.Claims
@@ -160,7 +159,7 @@ plain-calls t = (
 
 -- what `strict` is told of those that it calls
 abbrev strict-calls : ℕ → strict-lts.Claims
-strict-calls t = (cell-of-reads.Asked, cell-of-reads.Learnt, rows-on-reads.Asked, rows-on-reads.Learnt, strict-by-below t, strict-by.Post)
+strict-calls t = (cell-on-reads.Asked, cell-on-reads.Learnt, rows-on-reads.Asked, rows-on-reads.Learnt, strict-by-below t, strict-by.Post)
 
 -- what `strict-by` is told of those that it calls
 abbrev strict-by-calls : ℕ → strict-by-lts.Claims
@@ -271,8 +270,8 @@ first-real-returns-2 t c =
     let a = c .before in
     (sym (a .loop .inv .1 ∙ next-past _ (a .loop .three) (c .loop-test .left)), a .loop .inv .0)
 
-is-real-eye-of-requires : (t : ℕ) → is-real-lts.Need-eye-of-requires (is-real-calls t) (is-real-at t) is-real.Post
-is-real-eye-of-requires t c κs = c .before .pre .1
+is-real-eye-on-requires : (t : ℕ) → is-real-lts.Need-eye-on-requires (is-real-calls t) (is-real-at t) is-real.Post
+is-real-eye-on-requires t c κs = c .before .pre .1
 
 is-real-strict-requires : (t : ℕ) → is-real-lts.Need-strict-requires (is-real-calls t) (is-real-at t) is-real.Post
 is-real-strict-requires t c κs =
@@ -284,7 +283,7 @@ is-real-strict-requires t c κs =
       (
         t .0,
         eye-small L (s .args .code) (s .args .three / 16) (s .args .three % 16) (t .0) (t .1) (omega (arith, t .2)) (t .3)
-            (c .before .eye-of .ensures),
+            (c .before .eye-on .ensures),
       ),
     )
 
@@ -295,7 +294,7 @@ is-real-returns : (t : ℕ) → is-real-lts.Need-returns (is-real-calls t) (is-r
 unfolding mayPlay
 is-real-returns t c =
     let v = c .before .strict .ensures in
-    let e = c .before .before .before .eye-of .ensures in
+    let e = c .before .before .before .eye-on .ensures in
     let s = c .before .before .before .before .before in
     let C = cellsOf (s .args .lines .now) in
     let t = s .pre .1 in (
@@ -380,13 +379,13 @@ plain-returns-5 t c =
       refl,
     )
 
-strict-cell-of-requires : (t : ℕ) → strict-lts.Need-cell-of-requires (strict-calls t) (strict-at t) strict.Post
-strict-cell-of-requires t c κs = search needs
+strict-cell-on-requires : (t : ℕ) → strict-lts.Need-cell-on-requires (strict-calls t) (strict-at t) strict.Post
+strict-cell-on-requires t c κs = search needs
 
 strict-returns : (t : ℕ) → strict-lts.Need-returns (strict-calls t) (strict-at t) strict.Post
 strict-returns t c =
     let s = c .before .before .before in
-    (asked-taken (s .args .lines .now) (s .args .code) (s .pre .1 .1) (c .before .cell-of .ensures) (c .if1 .taken), refl)
+    (asked-taken (s .args .lines .now) (s .args .code) (s .pre .1 .1) (c .before .cell-on .ensures) (c .if1 .taken), refl)
 
 strict-rows-on-requires : (t : ℕ) → strict-lts.Need-rows-on-requires (strict-calls t) (strict-at t) strict.Post
 strict-rows-on-requires t c κs = c .before .before .before .before .pre .1
@@ -399,7 +398,7 @@ strict-strict-by-requires t c κs =
     let L = s .args .lines .now in
     let p = s .args .code in
     let m = s .pre .0 in
-    let free = sym (cell-is L p (s .pre .1 .1) (o .before .cell-of .ensures)) ∙ o .if1 .left in
+    let free = sym (cell-is L p (s .pre .1 .1) (o .before .cell-on .ensures)) ∙ o .if1 .left in
     (omega arith, (s .pre .1 .1, λ t. triable (cellsOf L) p (r .rows-on .ensures) L (s .pre .1 .0) refl free))
 
 strict-returns-2 : (t : ℕ) → strict-lts.Need-returns-2 (strict-calls t) (strict-at t) strict.Post
@@ -409,7 +408,7 @@ strict-returns-2 t c =
     let s = o .before .before .before in
     let L = s .args .lines .now in
     let p = s .args .code in
-    let free = free-is L p (s .pre .1 .1) (o .before .cell-of .ensures) ∙ eq-eqb _ 0 (o .if1 .left) in (
+    let free = free-is L p (s .pre .1 .1) (o .before .cell-on .ensures) ∙ eq-eqb _ 0 (o .if1 .left) in (
       c .strict-by .ensures .0
           ∙ strict-is (cellsOf L) p (r .rows-on .ensures) L (length-cellsOf L) (s .pre .1 .1) free (λ t. refl),
       c .strict-by .ensures .1,
@@ -541,7 +540,7 @@ pub +first-real+is-real+plain+strict+strict-by+trial+two-real-spec : {M : Type 1
     (λ t. is-real-lts.spec (is-real-calls t)
     (is-real-at t)
     is-real.Post
-    (is-real-eye-of-requires t)
+    (is-real-eye-on-requires t)
     (is-real-strict-requires t)
     (is-real-is-none-requires t)
     (is-real-returns t))
@@ -560,7 +559,7 @@ pub +first-real+is-real+plain+strict+strict-by+trial+two-real-spec : {M : Type 1
     (λ t. strict-lts.spec (strict-calls t)
     (strict-at t)
     strict.Post
-    (strict-cell-of-requires t)
+    (strict-cell-on-requires t)
     (strict-returns t)
     (strict-rows-on-requires t)
     (strict-strict-by-requires t)

@@ -1,6 +1,7 @@
 -- `referee::front::forbidden` meets its contract: refused, or asked on a local copy of the lines. Assumes nothing.
 use mathlib.Core.Path.{sym, _∙_}
-use Rattle.referee.proofs.Ruled.{forbidden-in, ruled, not-ruled}
+use Rattle.referee.proofs.Ruled.{forbidden-in}
+use Rattle.rules.proofs.Refusals.{ruled, not-ruled}
 use borrow.Author.Needs.{needs}
 use Rattle.referee.proofs.front.forbidden.Statement.{statement}
 use Rattle.referee.proofs.front.forbidden.Tie as tie

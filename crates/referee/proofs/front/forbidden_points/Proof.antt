@@ -13,15 +13,15 @@ returns : tie.Need-returns
 returns c =
     turned-down 2 _ _ (c .before .refusal .ensures) (c .if1 .taken)
 
-cells-of-requires : tie.Need-cells-of-requires
-cells-of-requires c κs = search needs
+cells-on-requires : tie.Need-cells-on-requires
+cells-on-requires c κs = search needs
 
 slice-aggregate-listed : tie.Need-slice-aggregate-listed
 slice-aggregate-listed c = search needs
 
 listed-requires : tie.Need-listed-requires
 listed-requires c κs =
-    let e = c .before .before .cells-of .ensures in
+    let e = c .before .before .cells-on .ensures in
     rw e (cells-cellsOf _)
 
 same-length : tie.Need-same-length
@@ -32,7 +32,7 @@ returns-2 c =
     let k = c .before .before .before .before .before in
     let o = k .before .before .before in
     let z = sym (o .before .refusal .ensures) ∙ o .if1 .left in
-    rw (z, sym (k .cells-of .ensures)) (c .before .before .listed .ensures)
+    rw (z, sym (k .cells-on .ensures)) (c .before .before .listed .ensures)
 
 pub forbidden-points-spec : {M : Type 1} → statement M
 forbidden-points-spec =
@@ -40,7 +40,7 @@ forbidden-points-spec =
     (tie.spec
     refusal-requires
     returns
-    cells-of-requires
+    cells-on-requires
     slice-aggregate-listed
     listed-requires
     same-length

@@ -1,7 +1,7 @@
 -- `referee::front::forbidden_points_of` meets its contract: refused, or listed. Assumes nothing.
 use mathlib.Core.Path.{sym, _∙_}
 use Rattle.lent.proofs.Laws.{turned-down}
-use Rattle.board.proofs.Given.{cells-in}
+use Rattle.cells.proofs.Given.{cells-in}
 use borrow.Author.Needs.{needs}
 use Rattle.referee.proofs.front.forbidden_points_of.Statement.{statement}
 use Rattle.referee.proofs.front.forbidden_points_of.Tie as tie

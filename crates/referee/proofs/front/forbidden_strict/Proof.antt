@@ -6,10 +6,10 @@ use denote.Triple.Spec.{tripleOf}
 use denote.Triple.Table.{entered, cited}
 use Rattle.rules.specs.Forbidden.{strictOf}
 use Rattle.board.specs.Boards.{cells, refusalAt}
-use Rattle.referee.specs.Answers.{verdictAnswer}
-use Rattle.referee.proofs.answer.VerdictAnswer as S
-use Rattle.referee.proofs.answer.VerdictAnswer.Laws as S′
+use Rattle.rules.proofs.answer.VerdictAnswer as S
+use Rattle.rules.proofs.answer.VerdictAnswer.Laws as S′
 use Rattle.referee.proofs.ByValue.{by-value}
+use Rattle.rules.specs.Answers.{verdictAnswer}
 use Rattle.referee.proofs.thin.forbidden_strict_in as strict-in
 use Rattle.referee.proofs.thin.forbidden_strict_in.Symbol as strict-in-def
 use Rattle.referee.proofs.thin.forbidden_strict_in.Symbol.{name as #strict-in}

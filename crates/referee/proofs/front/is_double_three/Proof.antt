@@ -6,10 +6,10 @@ use denote.Triple.Spec.{tripleOf}
 use denote.Triple.Table.{entered, cited}
 use Rattle.rules.specs.Answers.{testAnswer}
 use Rattle.board.specs.Boards.{cells, refusalAt}
-use Rattle.referee.specs.Referee.{doubleThreeAt}
 use Rattle.rules.proofs.answer.TestAnswer as S
 use Rattle.rules.proofs.answer.TestAnswer.Laws as S′
 use Rattle.referee.proofs.ByValue.{by-value}
+use Rattle.rules.specs.Forbidden.{doubleThreeAt}
 use Rattle.referee.proofs.thin.is_double_three_in as double-in
 use Rattle.referee.proofs.thin.is_double_three_in.Symbol as double-in-def
 use Rattle.referee.proofs.thin.is_double_three_in.Symbol.{name as #double-in}

@@ -9,7 +9,7 @@ use Rattle.rules.specs.Forbidden.{strictOf, entry, forbiddenList}
 use Rattle.lent.specs.Lists.{zeros, Wrote}
 use Rattle.lent.proofs.Laws.{wrote-start, wrote-length, gather-step, gather-end}
 use Rattle.referee.proofs.Swept.{column-skip}
-use Rattle.referee.proofs.Ruled.{pairs-short, entry-is}
+use Rattle.rules.proofs.Listed.{pairs-short, entry-is}
 use Rattle.referee.proofs.list.asked_pairs.Statement.{statement}
 use Rattle.referee.proofs.list.asked_pairs.Tie as tie
 use Rattle.referee.proofs.list.asked_pairs.Reads as reads

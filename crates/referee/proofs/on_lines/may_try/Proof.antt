@@ -1,8 +1,8 @@
 -- `referee::on_lines::may_try` meets its contract: refused, or the cell there is read. Assumes nothing.
 use mathlib.Core.Path.{refl, sym, _∙_}
-use Rattle.board.proofs.Given.{at-in}
 use Rattle.referee.proofs.Asked.{free-is}
-use Rattle.referee.proofs.Ruled.{tested, not-tested}
+use Rattle.rules.proofs.Refusals.{tested, not-tested}
+use Rattle.referee.proofs.Ruled.{lines-at-in}
 use borrow.Author.Needs.{needs}
 use Rattle.referee.proofs.on_lines.may_try.Statement.{statement}
 use Rattle.referee.proofs.on_lines.may_try.Tie as tie
@@ -13,17 +13,17 @@ refusal-on-requires c κs = search needs
 returns : tie.Need-returns
 returns c = (not-tested _ (c .before .refusal-on .ensures) (c .if1 .taken), refl)
 
-cell-of-requires : tie.Need-cell-of-requires
-cell-of-requires c κs = search needs
+cell-on-requires : tie.Need-cell-on-requires
+cell-on-requires c κs = search needs
 
 returns-2 : tie.Need-returns-2
 returns-2 c =
     let o = c .before .before in
     let a = o .before .before .before .args in
-    let (_, hp) = at-in (record { lines = a .lines .now }) (a .code) (sym (o .before .refusal-on .ensures) ∙ o .if1 .left) in (
-      tested _ (o .before .refusal-on .ensures) (o .if1 .left) (sym (free-is (a .lines .now) (a .code) hp (c .cell-of .ensures))),
+    let (_, hp) = lines-at-in (a .lines .now) (a .code) (sym (o .before .refusal-on .ensures) ∙ o .if1 .left) in (
+      tested _ (o .before .refusal-on .ensures) (o .if1 .left) (sym (free-is (a .lines .now) (a .code) hp (c .cell-on .ensures))),
       refl,
     )
 
 pub may-try-spec : {M : Type 1} → statement M
-may-try-spec = tie.close (tie.spec refusal-on-requires returns cell-of-requires returns-2)
+may-try-spec = tie.close (tie.spec refusal-on-requires returns cell-on-requires returns-2)

@@ -1,14 +1,10 @@
--- `referee::on_lines::refusal_on` meets its contract: test by test. Assumes nothing.
-use Rattle.referee.proofs.Ruled.{lines-refused}
+-- `referee::on_lines::refusal_on` meets its contract: what it calls says it. Assumes nothing.
 use borrow.Author.Needs.{needs}
 use Rattle.referee.proofs.on_lines.refusal_on.Statement.{statement}
 use Rattle.referee.proofs.on_lines.refusal_on.Tie as tie
 
-is-sound-requires : tie.Need-is-sound-requires
-is-sound-requires c κs = search needs
-
-unless-requires : tie.Need-unless-requires
-unless-requires c κs = search needs
+lines-refusal-requires : tie.Need-lines-refusal-requires
+lines-refusal-requires c κs = search needs
 
 code-refusal-requires : tie.Need-code-refusal-requires
 code-refusal-requires c κs = search needs
@@ -17,12 +13,7 @@ first-requires : tie.Need-first-requires
 first-requires c κs = search needs
 
 returns : tie.Need-returns
-returns c =
-    let u = c .before .before in
-    let s = u .before .before in
-    lines-refused (s .args .lines .now) (s .args .code) (u .before .is-sound .ensures) (u .unless .ensures)
-    (c .before .code-refusal .ensures) (c .first .ensures)
+returns c = simp (c .before .before .lines-refusal .ensures, c .before .code-refusal .ensures, c .first .ensures)
 
 pub refusal-on-spec : {M : Type 1} → statement M
-refusal-on-spec =
-    tie.close (tie.spec is-sound-requires unless-requires code-refusal-requires first-requires returns)
+refusal-on-spec = tie.close (tie.spec lines-refusal-requires code-refusal-requires first-requires returns)

@@ -1,7 +1,7 @@
 -- `referee::on_lines::strict_on` meets its contract: refused, or asked on the same lines. Assumes nothing.
 use mathlib.Core.Path.{refl, sym, _∙_}
-use Rattle.board.proofs.Given.{at-in}
-use Rattle.referee.proofs.Ruled.{ruled, not-ruled}
+use Rattle.rules.proofs.Refusals.{ruled, not-ruled}
+use Rattle.referee.proofs.Ruled.{lines-at-in}
 use borrow.Author.Needs.{needs}
 use Rattle.referee.proofs.on_lines.strict_on.Statement.{statement}
 use Rattle.referee.proofs.on_lines.strict_on.Tie as tie
@@ -16,7 +16,7 @@ strict-requires : tie.Need-strict-requires
 strict-requires c κs =
     let o = c .before in
     let s = o .before .before .before in
-    at-in (record { lines = s .args .lines .now }) (s .args .code) (sym (o .before .refusal-on .ensures) ∙ o .if1 .left)
+    lines-at-in (s .args .lines .now) (s .args .code) (sym (o .before .refusal-on .ensures) ∙ o .if1 .left)
 
 returns-2 : tie.Need-returns-2
 returns-2 c =

@@ -11,14 +11,14 @@ use Rattle.referee.proofs.rows.rows_on.Statement.{statement}
 use Rattle.referee.proofs.rows.rows_on.Tie as tie
 use Rattle.referee.proofs.rows.rows_on.Reads as reads
 use Rattle.referee.proofs.rows.rows_on.Lts as lts
-use Rattle.grid.proofs.masks_through.Reads as masks-through-reads
+use Rattle.grid.proofs.masks_on.Reads as masks-on-reads
 use Rattle.near.proofs.rows_near.Reads as rows-near-reads
 
-masks-through-requires : tie.Need-masks-through-requires
-masks-through-requires c κs = search needs
+masks-on-requires : tie.Need-masks-on-requires
+masks-on-requires c κs = search needs
 
-masks-through-requires-2 : tie.Need-masks-through-requires-2
-masks-through-requires-2 c κs = search needs
+masks-on-requires-2 : tie.Need-masks-on-requires-2
+masks-on-requires-2 c κs = search needs
 
 rows-near-requires : tie.Need-rows-near-requires
 rows-near-requires c κs = search needs
@@ -29,11 +29,11 @@ returns c =
     let s = b .before in
     let l = s .args .lines .now in
     let p = s .args .code in
-    rows-seen (cellsOf l) _ _ p (s .pre .1)
-    (subst (MasksOf Black (cellsOf l) p) (sym (b .masks-through .ensures)) (masks-sound Black l p (s .pre .0) (s .pre .1)))
-    (subst (MasksOf White (cellsOf l) p) (sym (c .before .masks-through2 .ensures)) (masks-sound White l p (s .pre .0) (s .pre .1)))
+    rows-seen Black (cellsOf l) _ _ p (s .pre .1)
+    (subst (MasksOf Black (cellsOf l) p) (sym (b .masks-on .ensures)) (masks-sound Black l p (s .pre .0) (s .pre .1)))
+    (subst (MasksOf White (cellsOf l) p) (sym (c .before .masks-on2 .ensures)) (masks-sound White l p (s .pre .0) (s .pre .1)))
     (c .rows-near .ensures)
 
 pub rows-on-spec : {M : Type 1} → statement M
 rows-on-spec =
-    tie.close (tie.spec masks-through-requires masks-through-requires-2 rows-near-requires returns)
+    tie.close (tie.spec masks-on-requires masks-on-requires-2 rows-near-requires returns)

@@ -5,8 +5,9 @@ use Prim.Native.Nat.{ℕ}
 use lib.Dec.{T}
 use Rattle.rules.specs.Grid.{isEmpty}
 use Rattle.rules.proofs.Verdicts.{quiet-none}
+use Rattle.rules.proofs.Starts.{twos-are}
 use Rattle.rules.proofs.Logic.{along}
-use Rattle.referee.proofs.RowsSeen.{may-is, strict-is, triable, twos-are}
+use Rattle.referee.proofs.RowsSeen.{may-is, strict-is, triable}
 use Rattle.referee.proofs.Asked.{byte-taken, lines-of-sound, lines-of-cells, lines-wanted}
 use Rattle.referee.proofs.single.strict_of.Statement.{statement}
 use Rattle.referee.proofs.single.strict_of.Tie as tie
@@ -68,7 +69,7 @@ returns-2 c =
     c .strict-by .ensures .0
     ∙ strict-is cells p (r .rows-of .ensures) (b .lines-if .result) (s .pre .0 .long) hp (ap isEmpty (o .if1 .left))
     (λ t. lines-of-cells cells p (s .pre .0) hp (lines-wanted (m .more-than-one .result) cells (b .lines-if .ensures)
-    (along (sym (twos-are cells p (r .rows-of .ensures) (m .more-than-one .ensures))) t)))
+    (along (sym (twos-are cells p (r .rows-of .ensures .twos) (m .more-than-one .ensures))) t)))
 
 returns-3 : tie.Need-returns-3
 returns-3 c =

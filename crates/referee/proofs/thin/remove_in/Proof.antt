@@ -9,8 +9,8 @@ use Rattle.grid.proofs.remove_on as remove-on
 use Rattle.grid.proofs.remove_on.Symbol as remove-on-def
 use Rattle.grid.proofs.remove_on.Symbol.{name as #remove-on}
 use Rattle.grid.proofs.remove_on.Met as remove-on-thm
+use Rattle.board.specs.Boards.{withLines}
 use Rattle.referee.specs.Referee.{writtenBoard}
-use Rattle.referee.proofs.Lines.{with-lines}
 use Rattle.referee.proofs.Walk.{thin-unit}
 use Rattle.referee.proofs.thin.remove_in as remove-in
 use Rattle.referee.proofs.thin.remove_in.Key.{name as #remove-in}
@@ -23,7 +23,7 @@ remove-in-spec 𝓤 H 𝓜 𝓖 𝓡 =
     entered 𝓤 H (tripleOf 𝓤 H (𝓖 .A) remove-in.signature (remove-in.spec 𝓤 H (𝓖 .A) (𝓜 .mem) (𝓡 .run)))
     (tables 𝓤 H 𝓜 𝓡 code.env .C) (tables 𝓤 H 𝓜 𝓡 code.env .Λ) #remove-in code.function (code.unfolded 𝓤 H 𝓜 𝓡)
     (thin-unit 𝓤 H (𝓖 .A) (givenOf 𝓤 H 𝓜 𝓖) (λ n xs. emp 𝓤)
-    (λ n xs zs r. zs ≡ writeOn xs n 0) (λ n h h′ r. h′ ≡ writtenBoard h n 0) (λ n h zs r e. ap (with-lines h) e)
+    (λ n xs zs r. zs ≡ writeOn xs n 0) (λ n h h′ r. h′ ≡ writtenBoard h n 0) (λ n h zs r e. ap (withLines h) e)
     (tablesOf 𝓤 H 𝓜 (tables 𝓤 H 𝓜 𝓡 code.env)) #remove-on
     (cited 𝓤 H (tripleOf 𝓤 H (𝓖 .A) remove-on.signature (remove-on.spec 𝓤 H (𝓖 .A) (𝓜 .mem) (𝓡 .run))) 𝓜 𝓡 code.env
     #remove-on remove-on-def.routine code.calls-grid·remove-on (remove-on-thm.met 𝓤 H 𝓜 𝓖 𝓡)))

@@ -1,30 +1,19 @@
--- `board::board::Board::from_moves` meets its contract: the moves put on the empty board. Assumes nothing.
-use mathlib.Core.Path.{ap₂, _∙_}
-use mathlib.Core.Bool.{true}
-use Rattle.rules.specs.declared.Player.the-variants.{Black}
-use Rattle.lent.specs.Lists.{zeros}
-use Rattle.board.specs.Boards.{puts, movesCells}
-use Rattle.board.specs.Answers.{linesAnswer}
-use Rattle.board.proofs.Given.{board-given, puts-none}
+-- `board::board::Board::from_moves` meets its contract: the board of the cells after the moves. Assumes nothing.
+use mathlib.Core.Path.{_∙_}
+use Rattle.cells.proofs.Given.{moves-ok}
+use Rattle.board.proofs.Given.{read-given}
 use borrow.Author.Needs.{needs}
 use Rattle.board.proofs.board.Board.from_moves.Statement.{statement}
 use Rattle.board.proofs.board.Board.from_moves.Tie as tie
 
-put-all-requires : tie.Need-put-all-requires
-put-all-requires c κs = search needs
+moves-cells-requires : tie.Need-moves-cells-requires
+moves-cells-requires c κs = search needs
 
-codes-refusal-requires : tie.Need-codes-refusal-requires
-codes-refusal-requires c κs = search needs
-
-of-requires : tie.Need-of-requires
-of-requires c κs = search needs
+read-requires : tie.Need-read-requires
+read-requires c κs = search needs
 
 returns : tie.Need-returns
-unfolding movesCells zeros
-returns c =
-    let a = c .before .before .before .before .before .args in
-    c .of .ensures ∙ ap₂ linesAnswer (c .before .codes-refusal .ensures) (c .before .before .put-all .ensures)
-    ∙ board-given _ _ _ (λ e. puts-none (puts true Black (a .moves .now)))
+returns c = c .read .ensures ∙ read-given _ _ _ (c .before .moves-cells .ensures) (moves-ok _)
 
 pub from-moves-spec : {M : Type 1} → statement M
-from-moves-spec = tie.close (tie.spec put-all-requires codes-refusal-requires of-requires returns)
+from-moves-spec = tie.close (tie.spec moves-cells-requires read-requires returns)

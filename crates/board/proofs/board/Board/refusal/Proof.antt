@@ -4,15 +4,12 @@ use borrow.Author.Needs.{needs}
 use Rattle.board.proofs.board.Board.refusal.Statement.{statement}
 use Rattle.board.proofs.board.Board.refusal.Tie as tie
 
-is-sound-requires : tie.Need-is-sound-requires
-is-sound-requires c κs = search needs
-
-unless-requires : tie.Need-unless-requires
-unless-requires c κs = search needs
+lines-refusal-requires : tie.Need-lines-refusal-requires
+lines-refusal-requires c κs = search needs
 
 returns : tie.Need-returns
 unfolding boardRefusal
-returns c = simp (c .before .is-sound .ensures, c .unless .ensures)
+returns c = c .lines-refusal .ensures
 
 pub refusal-spec : {M : Type 1} → statement M
-refusal-spec = tie.close (tie.spec is-sound-requires unless-requires returns)
+refusal-spec = tie.close (tie.spec lines-refusal-requires returns)

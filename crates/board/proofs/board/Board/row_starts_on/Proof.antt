@@ -5,11 +5,11 @@ use borrow.Author.Needs.{needs}
 use Rattle.board.proofs.board.Board.row_starts_on.Statement.{statement}
 use Rattle.board.proofs.board.Board.row_starts_on.Tie as tie
 
-of-requires : tie.Need-of-requires
-of-requires c κs = search needs
+or-white-requires : tie.Need-or-white-requires
+or-white-requires c κs = search needs
 
-of-requires-2 : tie.Need-of-requires-2
-of-requires-2 c κs = search needs
+or-overlined-requires : tie.Need-or-overlined-requires
+or-overlined-requires c κs = search needs
 
 row-starts-on-requires : tie.Need-row-starts-on-requires
 row-starts-on-requires c κs = search needs
@@ -17,19 +17,19 @@ row-starts-on-requires c κs = search needs
 rows-on-refusal-requires : tie.Need-rows-on-refusal-requires
 rows-on-refusal-requires c κs = search needs
 
-of-requires-3 : tie.Need-of-requires-3
-of-requires-3 c κs = search needs
+of-requires : tie.Need-of-requires
+of-requires c κs = search needs
 
 returns : tie.Need-returns
 returns c =
     let s = c .before .before in
     let a = s .before .before .before .before .before .args in
     simp (
-      c .of3 .ensures,
+      c .of .ensures,
       c .before .rows-on-refusal .ensures,
       s .row-starts-on .ensures,
-      s .before .of2 .ensures,
-      s .before .before .of .ensures,
+      s .before .or-overlined .ensures,
+      s .before .before .or-white .ensures,
     )
     (starts-given _ _ _ (λ e.
     let h = rows-on-in (a .self) (a .code) (a .colour) (a .kind) e in
@@ -39,9 +39,9 @@ pub row-starts-on-spec : {M : Type 1} → statement M
 row-starts-on-spec =
     tie.close
     (tie.spec
-    of-requires
-    of-requires-2
+    or-white-requires
+    or-overlined-requires
     row-starts-on-requires
     rows-on-refusal-requires
-    of-requires-3
+    of-requires
     returns)

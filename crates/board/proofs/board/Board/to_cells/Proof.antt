@@ -9,8 +9,8 @@ use borrow.Author.Needs.{needs}
 use Rattle.board.proofs.board.Board.to_cells.Statement.{statement}
 use Rattle.board.proofs.board.Board.to_cells.Tie as tie
 
-cells-of-requires : tie.Need-cells-of-requires
-cells-of-requires c κs = search needs
+cells-on-requires : tie.Need-cells-on-requires
+cells-on-requires c κs = search needs
 
 refusal-requires : tie.Need-refusal-requires
 refusal-requires c κs = search needs
@@ -32,7 +32,7 @@ returns c =
     let w = c .before .before .before in
     let s = w .before .before .before .before in
     let a = s .before .before .before .before .args in
-    let e = cells-out _ (a .out .now) _ (a .self .lines) _ _ (s .cells-of .ensures) (w .write-out .ensures) in
+    let e = cells-out _ (a .out .now) _ (a .self .lines) _ _ (s .cells-on .ensures) (w .write-out .ensures) in
     let z = w .before .before .before .refusal .ensures in (
       c .of .ensures ∙ ap (λ (n : ℕ). numberAnswer n 225) (e .0 ∙ ap (λ (n : ℕ). listRefusal n (a .out .now) (cellsOf (a .self .lines))) z),
       e .1 ∙ ap (λ (n : ℕ). listOut n (a .out .now) (cellsOf (a .self .lines))) z,
@@ -42,7 +42,7 @@ pub to-cells-spec : {M : Type 1} → statement M
 to-cells-spec =
     tie.close
     (tie.spec
-    cells-of-requires
+    cells-on-requires
     refusal-requires
     slice-aggregate-write-out
     write-out-requires

@@ -1,0 +1,37 @@
+-- `grid::through::masks_on` meets its contract: one mask for each direction. Assumes nothing.
+use Rattle.rules.specs.Tools.{tab}
+use Rattle.grid.specs.Lines.{masksThrough}
+use borrow.Author.Needs.{needs}
+use Rattle.grid.proofs.through.masks_on.Statement.{statement}
+use Rattle.grid.proofs.through.masks_on.Tie as tie
+
+mask-along-requires : tie.Need-mask-along-requires
+mask-along-requires c κs = search needs
+
+mask-along-requires-2 : tie.Need-mask-along-requires-2
+mask-along-requires-2 c κs = search needs
+
+mask-along-requires-3 : tie.Need-mask-along-requires-3
+mask-along-requires-3 c κs = search needs
+
+mask-along-requires-4 : tie.Need-mask-along-requires-4
+mask-along-requires-4 c κs = search needs
+
+returns : tie.Need-returns
+unfolding masksThrough tab
+returns c = rw (
+  c .mask-along4 .ensures,
+  c .before .mask-along3 .ensures,
+  c .before .before .mask-along2 .ensures,
+  c .before .before .before .mask-along .ensures,
+)
+
+pub masks-on-spec : {M : Type 1} → statement M
+masks-on-spec =
+    tie.close
+    (tie.spec
+    mask-along-requires
+    mask-along-requires-2
+    mask-along-requires-3
+    mask-along-requires-4
+    returns)
