@@ -21,7 +21,7 @@ use Rattle.line.specs.Lines.{blacks, whites, sizeRefusal, lineRefusal}
 use Rattle.line.specs.Answers.{lineAnswer}
 use Rattle.line.specs.declared.line.Line.{Line}
 use Rattle.line.specs.declared.answer.LineAnswer.the-variants as line
-use Rattle.text.specs.Bytes.{dense}
+use Rattle.text.specs.Bytes.{dot, smallO, smallX, dense}
 use Rattle.text.specs.Lines.{marked, lengthRefusal, lineIn, lineTextRefusal}
 use Rattle.display.specs.Texts.{letterOr, valuesOf, cellText, lineText, textOfLine}
 use Rattle.display.proofs.Sizes.{line-short}
@@ -32,33 +32,33 @@ letters-length : (n : ℕ) (value : ℕ → ℕ) → length (letters n value) �
 unfolding gather
 letters-length zero value = refl
 letters-length (suc n) value =
-    let e = length-append (letters n value) (letterOr 46 (value n) ∷ []) in
+    let e = length-append (letters n value) (letterOr dot (value n) ∷ []) in
     let r = letters-length n value in
     omega arith
 
-letters-at : (n : ℕ) (value : ℕ → ℕ) (i : ℕ) → i < n → getD (letters n value) i 0 ≡ letterOr 46 (value i)
+letters-at : (n : ℕ) (value : ℕ → ℕ) (i : ℕ) → i < n → getD (letters n value) i 0 ≡ letterOr dot (value i)
 unfolding gather
 letters-at zero value i h = omega arith
 letters-at (suc n) value i h = go (decide (ltb i n)) (letters-at n value i)
   where
-    go : (ltb i n ≡ true) ⊎ (ltb i n ≡ false) → (i < n → getD (letters n value) i 0 ≡ letterOr 46 (value i))
-        → getD (letters n value ++ (letterOr 46 (value n) ∷ [])) i 0 ≡ letterOr 46 (value i)
+    go : (ltb i n ≡ true) ⊎ (ltb i n ≡ false) → (i < n → getD (letters n value) i 0 ≡ letterOr dot (value i))
+        → getD (letters n value ++ (letterOr dot (value n) ∷ [])) i 0 ≡ letterOr dot (value i)
     go (inl t) r =
         let l = ltb-true i n t in
-        List·getD-append (letters n value) (letterOr 46 (value n) ∷ []) 0 i (omega (arith, letters-length n value)) ∙ r l
+        List·getD-append (letters n value) (letterOr dot (value n) ∷ []) 0 i (omega (arith, letters-length n value)) ∙ r l
     go (inr t) r =
         let l = ltb-false i n t in
         let e : i ≡ n = omega arith in
-        rw e (getD-at (letters n value) (letterOr 46 (value n)) [] 0 n (letters-length n value))
+        rw e (getD-at (letters n value) (letterOr dot (value n)) [] 0 n (letters-length n value))
 
 -- ---- a letter says whose stone stands there
-black-said : (b w : Bool) → eqb (letterOr 46 (valueOf b w)) 111 ≡ b
+black-said : (b w : Bool) → eqb (letterOr dot (valueOf b w)) smallO ≡ b
 unfolding letterOr
 black-said true w = refl
 black-said false true = refl
 black-said false false = refl
 
-white-said : (b w : Bool) → (b && w) ≡ false → eqb (letterOr 46 (valueOf b w)) 120 ≡ w
+white-said : (b w : Bool) → (b && w) ≡ false → eqb (letterOr dot (valueOf b w)) smallX ≡ w
 unfolding letterOr
 white-said true true e = sym e
 white-said true false e = refl
@@ -96,7 +96,7 @@ module _ (l : Line) (good : lineRefusal l ≡ 0) where
   unfolding textOfLine lineText
   cells-are = dense-cells (l .size) (valuesOf (blacks l) (whites l))
 
-  cell-at : (i : ℕ) → i < l .size → getD (dense (textOfLine l)) i 0 ≡ letterOr 46 (valueOf (blacks l i) (whites l i))
+  cell-at : (i : ℕ) → i < l .size → getD (dense (textOfLine l)) i 0 ≡ letterOr dot (valueOf (blacks l i) (whites l i))
   cell-at i h = rw cells-are (letters-at (l .size) (valuesOf (blacks l) (whites l)) i h)
 
   cell-past : (i : ℕ) → l .size ≤ i → getD (dense (textOfLine l)) i 0 ≡ 0
@@ -105,21 +105,21 @@ module _ (l : Line) (good : lineRefusal l ≡ 0) where
       (List·getD-eq-default (letters (l .size) (valuesOf (blacks l) (whites l))) 0 {n = i}
       (omega (arith, letters-length (l .size) (valuesOf (blacks l) (whites l)))))
 
-  black-bit : (i : ℕ) → i < 16 → bit (l .blacks) i ≡ eqb (getD (dense (textOfLine l)) i 0) 111
+  black-bit : (i : ℕ) → i < 16 → bit (l .blacks) i ≡ eqb (getD (dense (textOfLine l)) i 0) smallO
   unfolding noStone
   black-bit i h = go (decide (ltb i (l .size)))
     where
-      go : (ltb i (l .size) ≡ true) ⊎ (ltb i (l .size) ≡ false) → bit (l .blacks) i ≡ eqb (getD (dense (textOfLine l)) i 0) 111
+      go : (ltb i (l .size) ≡ true) ⊎ (ltb i (l .size) ≡ false) → bit (l .blacks) i ≡ eqb (getD (dense (textOfLine l)) i 0) smallO
       go (inl t) = rw (cell-at i (ltb-true i (l .size) t)) (sym (black-said (blacks l i) (whites l i)))
       go (inr t) =
           let k = ltb-false i (l .size) t in
           rw (cell-past i k) (not-false (and-left (not (blacks l i)) (not (whites l i)) (past i h k)))
 
-  white-bit : (i : ℕ) → i < 16 → bit (l .whites) i ≡ eqb (getD (dense (textOfLine l)) i 0) 120
+  white-bit : (i : ℕ) → i < 16 → bit (l .whites) i ≡ eqb (getD (dense (textOfLine l)) i 0) smallX
   unfolding noStone
   white-bit i h = go (decide (ltb i (l .size)))
     where
-      go : (ltb i (l .size) ≡ true) ⊎ (ltb i (l .size) ≡ false) → bit (l .whites) i ≡ eqb (getD (dense (textOfLine l)) i 0) 120
+      go : (ltb i (l .size) ≡ true) ⊎ (ltb i (l .size) ≡ false) → bit (l .whites) i ≡ eqb (getD (dense (textOfLine l)) i 0) smallX
       go (inl t) = rw (cell-at i (ltb-true i (l .size) t)) (sym (white-said (blacks l i) (whites l i) (not-both i h)))
       go (inr t) =
           let k = ltb-false i (l .size) t in
@@ -154,7 +154,7 @@ module _ (l : Line) (good : lineRefusal l ≡ 0) where
   line-back b w =
       rw (
         line-pass,
-        ← mask-ext 16 (l .blacks) (λ i. eqb (getD (dense (textOfLine l)) i 0) 111) b black-bit,
-        ← mask-ext 16 (l .whites) (λ i. eqb (getD (dense (textOfLine l)) i 0) 120) w white-bit,
+        ← mask-ext 16 (l .blacks) (λ i. eqb (getD (dense (textOfLine l)) i 0) smallO) b black-bit,
+        ← mask-ext 16 (l .whites) (λ i. eqb (getD (dense (textOfLine l)) i 0) smallX) w white-bit,
         size-said,
       )

@@ -16,7 +16,7 @@ use Rattle.rules.specs.declared.answer.NumberAnswer.the-variants as number
 use Rattle.rules.proofs.Logic.{all-elim, and-left, and-right, not-false}
 use Rattle.rules.proofs.Lists.{gather-front, gather-cong}
 use Rattle.rules.proofs.Refusals.{none-first}
-use Rattle.text.specs.Bytes.{space, trim, trimStart, trimEnd, keepEnd, has, parts, textRefusal}
+use Rattle.text.specs.Bytes.{blank, comma, digitZero, capitalA, space, trim, trimStart, trimEnd, keepEnd, has, parts, textRefusal}
 use Rattle.text.specs.Points.{columnOf, isDigit, oneByte, twoBytes, numberOf, columnIn, rowIn, placeRefusal, itemRefusal, itemCode}
 use Rattle.text.specs.Points.{itemsRefusal, itemCodes, pointsRefusal, pointsIn, pointTextRefusal, listTextRefusal}
 use Rattle.display.specs.Texts.{digitText, numberText, pointText, itemText, pointItem, pointsText}
@@ -27,7 +27,7 @@ use Rattle.display.proofs.Shown.{All, all-append, all-gather, all-text,
 
 -- the text of p is not refused, names p, and has no comma
 reads : ℕ → Bool
-reads p = eqb (itemRefusal (pointText p)) 0 && (eqb (itemCode (pointText p)) p && not (has 44 (pointText p)))
+reads p = eqb (itemRefusal (pointText p)) 0 && (eqb (itemCode (pointText p)) p && not (has comma (pointText p)))
 
 all-read : T (allBelow 225 reads)
 unfolding reads pointText numberText itemRefusal itemCode placeRefusal columnIn rowIn columnOf numberOf oneByte twoBytes isDigit
@@ -35,28 +35,28 @@ unfolding reads pointText numberText itemRefusal itemCode placeRefusal columnIn 
 all-read = tt
 
 module _ (p : ℕ) (h : p < 225) where
-  reading : T (eqb (itemRefusal (pointText p)) 0 && (eqb (itemCode (pointText p)) p && not (has 44 (pointText p))))
+  reading : T (eqb (itemRefusal (pointText p)) 0 && (eqb (itemCode (pointText p)) p && not (has comma (pointText p))))
   unfolding reads
   reading = all-elim 225 reads all-read p h
 
-  rest : T (eqb (itemCode (pointText p)) p && not (has 44 (pointText p)))
-  rest = and-right (eqb (itemRefusal (pointText p)) 0) (eqb (itemCode (pointText p)) p && not (has 44 (pointText p))) reading
+  rest : T (eqb (itemCode (pointText p)) p && not (has comma (pointText p)))
+  rest = and-right (eqb (itemRefusal (pointText p)) 0) (eqb (itemCode (pointText p)) p && not (has comma (pointText p))) reading
 
   point-good : itemRefusal (pointText p) ≡ 0
   point-good =
       eqb→eq (itemRefusal (pointText p)) 0
-      (and-left (eqb (itemRefusal (pointText p)) 0) (eqb (itemCode (pointText p)) p && not (has 44 (pointText p))) reading)
+      (and-left (eqb (itemRefusal (pointText p)) 0) (eqb (itemCode (pointText p)) p && not (has comma (pointText p))) reading)
 
   point-code : itemCode (pointText p) ≡ p
-  point-code = eqb→eq (itemCode (pointText p)) p (and-left (eqb (itemCode (pointText p)) p) (not (has 44 (pointText p))) rest)
+  point-code = eqb→eq (itemCode (pointText p)) p (and-left (eqb (itemCode (pointText p)) p) (not (has comma (pointText p))) rest)
 
-  no-comma : has 44 (pointText p) ≡ false
-  no-comma = not-false (and-right (eqb (itemCode (pointText p)) p) (not (has 44 (pointText p))) rest)
+  no-comma : has comma (pointText p) ≡ false
+  no-comma = not-false (and-right (eqb (itemCode (pointText p)) p) (not (has comma (pointText p))) rest)
 
   -- its bytes
   point-has : All (λ b. b < 128) (pointText p)
   unfolding pointText
-  point-has = (omega arith, number-has (λ b. b < 128) (λ d l. omega arith) (yOf p + 1) (omega arith))
+  point-has = rw (lt-ltb p 225 h) (omega arith, number-has (λ b. b < 128) (λ d l. omega arith) (yOf p + 1) (omega arith))
 
   -- a point that is written reads back as the same point: `text::read_point` of what `write_point` writes
   pub point-back : numberAnswer (pointTextRefusal (pointText p)) (itemCode (pointText p)) ≡ number.Is p
@@ -73,18 +73,18 @@ Points (c ∷ codes) = (c < 225) × Points codes
 -- the points behind the first, each after a comma
 behind : List ℕ → List ℕ
 behind [] = []
-behind (c ∷ codes) = 44 ∷ pointText c ++ behind codes
+behind (c ∷ codes) = comma ∷ pointText c ++ behind codes
 
 -- each point's text
 texts : List ℕ → List (List ℕ)
 texts [] = []
 texts (c ∷ codes) = pointText c ∷ texts codes
 
-items-behind : (codes : List ℕ) → gather (length codes) (λ i. 44 ∷ pointText (getD codes i 0)) ≡ behind codes
+items-behind : (codes : List ℕ) → gather (length codes) (λ i. comma ∷ pointText (getD codes i 0)) ≡ behind codes
 unfolding gather behind
 items-behind [] = refl
 items-behind (c ∷ codes) =
-    gather-front (length codes) (λ i. 44 ∷ pointText (getD (c ∷ codes) i 0)) ∙ ap (λ (l : List ℕ). 44 ∷ pointText c ++ l)
+    gather-front (length codes) (λ i. comma ∷ pointText (getD (c ∷ codes) i 0)) ∙ ap (λ (l : List ℕ). comma ∷ pointText c ++ l)
     (items-behind codes)
 
 shape : (c : ℕ) (codes : List ℕ) → pointsText (c ∷ codes) ≡ pointText c ++ behind codes
@@ -92,20 +92,21 @@ unfolding pointsText itemText
 shape c codes =
     gather-front (length codes) (pointItem (c ∷ codes))
     ∙ ap (λ (l : List ℕ). pointText c ++ l)
-    (gather-cong (length codes) (λ i. pointItem (c ∷ codes) (suc i)) (λ i. 44 ∷ pointText (getD codes i 0))
+    (gather-cong (length codes) (λ i. pointItem (c ∷ codes) (suc i)) (λ i. comma ∷ pointText (getD codes i 0))
     (λ i _. rw (lt-ltb 0 (suc i) (omega arith)))
     ∙ items-behind codes)
 
 -- ---- no white space at its ends, and the parts between its commas
 
-point-some : (c : ℕ) → 0 < length (pointText c)
+point-some : (c : ℕ) → c < 225 → 0 < length (pointText c)
 unfolding pointText
-point-some c = omega arith
+point-some c h = rw (lt-ltb c 225 h) (omega arith)
 
-start-kept : (c : ℕ) (s : List ℕ) → trimStart (pointText c ++ s) ≡ pointText c ++ s
+start-kept : (c : ℕ) (s : List ℕ) → c < 225 → trimStart (pointText c ++ s) ≡ pointText c ++ s
 unfolding trimStart space pointText
-start-kept c s =
-    rw (ne-eqb (65 + xOf c) 32 (λ e. omega arith), le-leb 9 (65 + xOf c) (omega arith), lt-leb (65 + xOf c) 13 (omega arith))
+start-kept c s h =
+    let b = capitalA + xOf c in
+    rw (lt-ltb c 225 h) (rw (ne-eqb b blank (λ e. omega arith), le-leb 9 b (omega arith), lt-leb b 13 (omega arith)))
 
 keep-some : (a : ℕ) (s : List ℕ) → 0 < length s → keepEnd a s ≡ a ∷ s
 unfolding keepEnd
@@ -118,35 +119,39 @@ end-append [] b t e = e
 end-append (a ∷ s) b t e =
     ap (keepEnd a) (end-append s b t e) ∙ keep-some a (s ++ (b ∷ t)) (omega (arith, length-append s (b ∷ t)))
 
-digit-end : (d : ℕ) → trimEnd ((48 + d) ∷ []) ≡ (48 + d) ∷ []
+digit-end : (d : ℕ) → trimEnd ((digitZero + d) ∷ []) ≡ (digitZero + d) ∷ []
 unfolding trimEnd keepEnd space
-digit-end d = rw (ne-eqb (48 + d) 32 (λ e. omega arith), le-leb 9 (48 + d) (omega arith), lt-leb (48 + d) 13 (omega arith))
+digit-end d =
+    let b = digitZero + d in
+    rw (ne-eqb b blank (λ e. omega arith), le-leb 9 b (omega arith), lt-leb b 13 (omega arith))
 
-point-end : (c : ℕ) → trimEnd (pointText c) ≡ pointText c
+point-end : (c : ℕ) → c < 225 → trimEnd (pointText c) ≡ pointText c
 unfolding pointText numberText
-point-end c =
+point-end c h =
     let n = yOf c + 1 in
-    end-append ((65 + xOf c) ∷ (only (leb 100 n) (digitText (n / 100)) ++ only (leb 10 n) (digitText (n / 10 % 10)))) (48 + n % 10) []
-    (digit-end (n % 10))
+    rw (lt-ltb c 225 h) (end-append ((capitalA + xOf c) ∷ (only (leb 100 n) (digitText (n / 100)) ++ only (leb 10 n)
+    (digitText (n / 10 % 10))))
+    (digitZero + n % 10) [] (digit-end (n % 10)))
 
-end-kept : (c : ℕ) (codes : List ℕ) → trimEnd (pointText c ++ behind codes) ≡ pointText c ++ behind codes
+end-kept : (c : ℕ) (codes : List ℕ) → Points (c ∷ codes) → trimEnd (pointText c ++ behind codes) ≡ pointText c ++ behind codes
 unfolding behind trimEnd
-end-kept c [] = rw append-nil (point-end c)
-end-kept c (d ∷ codes) =
-    end-append (pointText c) 44 (pointText d ++ behind codes)
-    (ap (keepEnd 44) (end-kept d codes)
-    ∙ keep-some 44 (pointText d ++ behind codes) (omega (arith, length-append (pointText d) (behind codes), point-some d)))
+end-kept c [] h = rw append-nil (point-end c (h .0))
+end-kept c (d ∷ codes) h =
+    end-append (pointText c) comma (pointText d ++ behind codes)
+    (ap (keepEnd comma) (end-kept d codes (h .1))
+    ∙ keep-some comma (pointText d ++ behind codes)
+    (omega (arith, length-append (pointText d) (behind codes), point-some d (h .1 .0))))
 
-list-parts : (c : ℕ) (codes : List ℕ) → Points (c ∷ codes) → parts 44 (pointText c ++ behind codes) ≡ pointText c ∷ texts codes
+list-parts : (c : ℕ) (codes : List ℕ) → Points (c ∷ codes) → parts comma (pointText c ++ behind codes) ≡ pointText c ∷ texts codes
 unfolding behind texts
-list-parts c [] h = rw append-nil (parts-whole 44 (pointText c) (no-comma c (h .0)))
+list-parts c [] h = rw append-nil (parts-whole comma (pointText c) (no-comma c (h .0)))
 list-parts c (d ∷ codes) h =
-    parts-line 44 (pointText c) (pointText d ++ behind codes) (no-comma c (h .0)) refl
+    parts-line comma (pointText c) (pointText d ++ behind codes) (no-comma c (h .0)) refl
     ∙ ap (λ (l : List (List ℕ)). pointText c ∷ l) (list-parts d codes (h .1))
 
-list-shape : (c : ℕ) (codes : List ℕ) → Points (c ∷ codes) → parts 44 (trim (pointsText (c ∷ codes))) ≡ texts (c ∷ codes)
+list-shape : (c : ℕ) (codes : List ℕ) → Points (c ∷ codes) → parts comma (trim (pointsText (c ∷ codes))) ≡ texts (c ∷ codes)
 unfolding trim texts
-list-shape c codes h = rw (shape c codes, start-kept c (behind codes), end-kept c codes) (list-parts c codes h)
+list-shape c codes h = rw (shape c codes, start-kept c (behind codes) (h .0), end-kept c codes h) (list-parts c codes h)
 
 -- ---- what is read
 
@@ -170,8 +175,8 @@ list-has : (codes : List ℕ) → Points codes → All (λ b. b < 128) (pointsTe
 unfolding pointsText itemText
 list-has codes h =
     all-gather (λ b. b < 128) (length codes) (pointItem codes)
-    (λ i l. all-append (λ b. b < 128) (only (ltb 0 i) (44 ∷ [])) (pointText (getD codes i 0))
-    (only-one (λ b. b < 128) (ltb 0 i) 44 (omega arith))
+    (λ i l. all-append (λ b. b < 128) (only (ltb 0 i) (comma ∷ [])) (pointText (getD codes i 0))
+    (only-one (λ b. b < 128) (ltb 0 i) comma (omega arith))
     (point-has (getD codes i 0) (points-at codes h i l)))
 
 -- A list of points, not empty, that is written in at most 4,096 bytes reads back as the same list: `text::read_points` of what

@@ -1,4 +1,4 @@
--- A board that is written as a plain diagram reads back as the same board. Assumes nothing.
+-- Cells that are written as a plain diagram read back as the same cells, and a board as the same board. Assumes nothing.
 use mathlib.Core.Path.{_≡_, refl, ap, ap₂, sym, _∙_}
 use mathlib.Core.Bool.{Bool, true, false, cond}
 use mathlib.Core.List.{List, [], _∷_, _++_, map}
@@ -11,15 +11,20 @@ use Rattle.rules.specs.Refusals.{first, unless}
 use Rattle.rules.specs.Tools.{gather, tab, only, allBelow}
 use Rattle.rules.specs.Point.{xOf, yOf, codeOf}
 use Rattle.rules.proofs.Lists.{is-tab, tab-cong}
+use Rattle.cells.specs.Cells.{Cells}
+use Rattle.cells.specs.Answers.{cellsAnswer}
 use Rattle.grid.specs.Lines.{Sound, linesOf}
-use Rattle.grid.proofs.Lines.{Cells, cells-cellsOf}
+use Rattle.grid.proofs.Lines.{cells-cellsOf}
 use Rattle.board.specs.Boards.{cells, boardOf, boardRefusal}
-use Rattle.board.specs.Answers.{boardAnswer}
+use Rattle.board.specs.Answers.{answerWith, boardAnswer}
 use Rattle.board.specs.declared.board.Board.{Board}
 use Rattle.board.proofs.Given.{sound-in}
-use Rattle.text.specs.Bytes.{space, trim, trimStart, trimEnd, dense, has, parts, ontoFirst}
-use Rattle.text.specs.Reading.{countRefusal, sizeAt, diagramRefusal, diagramCells, letterCell, formRefusal, readRefusal, readCells}
+use Rattle.text.specs.Bytes.{newline, blank, comma, dot, slash, smallO, smallX, space, trim, trimStart, trimEnd, dense, has, parts}
+use Rattle.text.specs.Bytes.{ontoFirst}
+use Rattle.text.specs.Reading.{countRefusal, sizeAt, diagramRefusal, diagramCells, letterCell, diagramTextRefusal, diagramTextCells}
+use Rattle.text.specs.Reading.{readRefusal, readCells}
 use Rattle.text.proofs.Places.{end-more}
+use Rattle.text.proofs.Said.{as-diagram-refusal, as-diagram-cells}
 use Rattle.display.specs.Texts.{letterOr, lineText, rowText, plainRow, diagramOf}
 use Rattle.display.proofs.Sizes.{diagram-length}
 use Rattle.display.proofs.Shown.{All, all-append, all-gather, all-has, all-text, letter-has, row-has, parts-whole, parts-line}
@@ -27,15 +32,16 @@ use Rattle.display.proofs.Shown.{letters, dense-cells}
 
 -- ---- its bytes and its lines
 
-only-has : (P : ℕ → Type 0) → P 10 → (b : Bool) → All P (only b (10 ∷ []))
+only-has : (P : ℕ → Type 0) → P newline → (b : Bool) → All P (only b (newline ∷ []))
 only-has P n true = (n, tt)
 only-has P n false = tt
 
-diagram-has : (P : ℕ → Type 0) → P 10 → P 32 → P 111 → P 120 → P 46 → (grid : List ℕ) → All P (diagramOf grid)
+diagram-has : (P : ℕ → Type 0) → P newline → P blank → P smallO → P smallX → P dot → (grid : List ℕ) → All P (diagramOf grid)
 unfolding diagramOf plainRow
 diagram-has P n s o x e grid =
     all-gather P 15 (plainRow grid)
-    (λ k _. all-append P (rowText grid (14 - k)) (only (ltb k 14) (10 ∷ [])) (row-has P s o x e grid (14 - k)) (only-has P n (ltb k 14)))
+    (λ k _. all-append P (rowText grid (14 - k)) (only (ltb k 14) (newline ∷ [])) (row-has P s o x e grid (14 - k))
+    (only-has P n (ltb k 14)))
 
 row : List ℕ → ℕ → ℕ → ℕ
 row grid y x = getD grid (codeOf x y) 0
@@ -43,7 +49,7 @@ row grid y x = getD grid (codeOf x y) 0
 -- rows y down to 0, as one text and as lines of letters
 downText : List ℕ → ℕ → List ℕ
 downText grid zero = rowText grid zero
-downText grid (suc y) = rowText grid (suc y) ++ 10 ∷ downText grid y
+downText grid (suc y) = rowText grid (suc y) ++ newline ∷ downText grid y
 
 downRows : List ℕ → ℕ → List (List ℕ)
 downRows grid zero = letters 15 (row grid zero) ∷ []
@@ -53,37 +59,38 @@ shape : (grid : List ℕ) → diagramOf grid ≡ downText grid 14
 unfolding diagramOf plainRow rowText lineText gather downText
 shape grid = refl
 
-row-clear : (grid : List ℕ) (y : ℕ) → has 10 (rowText grid y) ≡ false
-row-clear grid y = all-has 10 (rowText grid y) (row-has (λ b. eqb b 10 ≡ false) refl refl refl refl grid y)
+row-clear : (grid : List ℕ) (y : ℕ) → has newline (rowText grid y) ≡ false
+row-clear grid y = all-has newline (rowText grid y) (row-has (λ b. eqb b newline ≡ false) refl refl refl refl grid y)
 
 row-dense : (grid : List ℕ) (y : ℕ) → dense (rowText grid y) ≡ letters 15 (row grid y)
 unfolding rowText lineText row
 row-dense grid y = dense-cells 15 (λ x. getD grid (codeOf x y) 0)
 
-down-lines : (grid : List ℕ) (y : ℕ) → map dense (parts 10 (downText grid y)) ≡ downRows grid y
+down-lines : (grid : List ℕ) (y : ℕ) → map dense (parts newline (downText grid y)) ≡ downRows grid y
 unfolding downText downRows
-down-lines grid zero = rw (parts-whole 10 (rowText grid zero) (row-clear grid zero)) (ap (λ (l : List ℕ). l ∷ []) (row-dense grid zero))
+down-lines grid zero =
+    rw (parts-whole newline (rowText grid zero) (row-clear grid zero)) (ap (λ (l : List ℕ). l ∷ []) (row-dense grid zero))
 down-lines grid (suc y) =
-    rw (parts-line 10 (rowText grid (suc y)) (downText grid y) (row-clear grid (suc y)) refl)
+    rw (parts-line newline (rowText grid (suc y)) (downText grid y) (row-clear grid (suc y)) refl)
     (ap₂ {C = List (List ℕ)} (λ l ls. l ∷ ls) (row-dense grid (suc y)) (down-lines grid y))
 
 -- without its first byte, a space, the diagram has no white space at its ends
 unfoldable rest : List ℕ → List ℕ
 rest grid = drop 1 (diagramOf grid)
 
-first-byte : (grid : List ℕ) → diagramOf grid ≡ 32 ∷ rest grid
+first-byte : (grid : List ℕ) → diagramOf grid ≡ blank ∷ rest grid
 unfolding rest diagramOf plainRow rowText lineText gather
 first-byte grid = refl
 
-second-byte : (grid : List ℕ) → rest grid ≡ letterOr 46 (getD grid 14 0) ∷ drop 2 (diagramOf grid)
+second-byte : (grid : List ℕ) → rest grid ≡ letterOr dot (getD grid 14 0) ∷ drop 2 (diagramOf grid)
 unfolding rest diagramOf plainRow rowText lineText gather
 second-byte grid = refl
 
-last-byte : (grid : List ℕ) → rest grid ≡ take 462 (rest grid) ++ (letterOr 46 (getD grid 210 0) ∷ [])
+last-byte : (grid : List ℕ) → rest grid ≡ take 462 (rest grid) ++ (letterOr dot (getD grid 210 0) ∷ [])
 unfolding rest diagramOf plainRow rowText lineText gather
 last-byte grid = refl
 
-letter-space : (v : ℕ) → space (letterOr 46 v) ≡ false
+letter-space : (v : ℕ) → space (letterOr dot v) ≡ false
 unfolding space
 letter-space v = letter-has (λ b. space b ≡ false) refl refl refl v
 
@@ -94,7 +101,7 @@ start-cut grid =
 
 end-kept : (grid : List ℕ) → trimEnd (rest grid) ≡ rest grid
 end-kept grid =
-    ap trimEnd (last-byte grid) ∙ end-more (take 462 (rest grid)) (letterOr 46 (getD grid 210 0)) ∙ rw (letter-space (getD grid 210 0))
+    ap trimEnd (last-byte grid) ∙ end-more (take 462 (rest grid)) (letterOr dot (getD grid 210 0)) ∙ rw (letter-space (getD grid 210 0))
     (sym (last-byte grid))
 
 diagram-cut : (grid : List ℕ) → trim (diagramOf grid) ≡ rest grid
@@ -116,21 +123,21 @@ parts-some d (b ∷ s) = go (eqb b d)
     go true = omega arith
     go false = onto-some b (parts d s)
 
-onto-space : (ls : List (List ℕ)) → 0 < length ls → map dense (ontoFirst 32 ls) ≡ map dense ls
+onto-space : (ls : List (List ℕ)) → 0 < length ls → map dense (ontoFirst blank ls) ≡ map dense ls
 unfolding ontoFirst dense space
 onto-space [] h = absurd (not-suc-le-zero h)
 onto-space (l ∷ ls) h = refl
 
-lines-space : (t : List ℕ) → map dense (parts 10 (32 ∷ t)) ≡ map dense (parts 10 t)
+lines-space : (t : List ℕ) → map dense (parts newline (blank ∷ t)) ≡ map dense (parts newline t)
 unfolding parts
-lines-space t = onto-space (parts 10 t) (parts-some 10 t)
+lines-space t = onto-space (parts newline t) (parts-some newline t)
 
 -- ---- the whole
 
-cut-lines : (grid : List ℕ) → map dense (parts 10 (trim (diagramOf grid))) ≡ downRows grid 14
+cut-lines : (grid : List ℕ) → map dense (parts newline (trim (diagramOf grid))) ≡ downRows grid 14
 cut-lines grid =
-    ap (λ (s : List ℕ). map dense (parts 10 s)) (diagram-cut grid) ∙ sym (lines-space (rest grid))
-    ∙ ap (λ (s : List ℕ). map dense (parts 10 s)) (sym (first-byte grid) ∙ shape grid) ∙ down-lines grid 14
+    ap (λ (s : List ℕ). map dense (parts newline s)) (diagram-cut grid) ∙ sym (lines-space (rest grid))
+    ∙ ap (λ (s : List ℕ). map dense (parts newline s)) (sym (first-byte grid) ∙ shape grid) ∙ down-lines grid 14
 
 dense-none : dense [] ≡ []
 unfolding dense
@@ -138,7 +145,7 @@ dense-none = refl
 
 rows-said : (grid : List ℕ)
     → tab 225 (λ p. letterCell (getD (getD (downRows grid 14) (14 - yOf p) []) (xOf p) 0)) ≡ tab 225
-    (λ p. letterCell (letterOr 46 (getD grid p 0)))
+    (λ p. letterCell (letterOr dot (getD grid p 0)))
 unfolding downRows gather row tab
 rows-said grid = refl
 
@@ -161,7 +168,7 @@ module _ (grid : List ℕ) (ls : List (List ℕ)) (e : map dense ls ≡ downRows
           (first 0 (unless (allBelow 15 (λ k. eqb (length (dense (getD ls k []))) 15)) 7)) ≡ 0
       all-15 at = rw (at 0, at 1, at 2, at 3, at 4, at 5, at 6, at 7, at 8, at 9, at 10, at 11, at 12, at 13, at 14)
 
-  lines-said : diagramCells ls ≡ tab 225 (λ p. letterCell (letterOr 46 (getD grid p 0)))
+  lines-said : diagramCells ls ≡ tab 225 (λ p. letterCell (letterOr dot (getD grid p 0)))
   unfolding diagramCells
   lines-said =
       tab-cong 225 (λ p. letterCell (getD (dense (getD ls (14 - yOf p) [])) (xOf p) 0))
@@ -169,7 +176,7 @@ module _ (grid : List ℕ) (ls : List (List ℕ)) (e : map dense ls ≡ downRows
       (λ p h. ap (λ (l : List ℕ). letterCell (getD l (xOf p) 0)) (line-at (14 - yOf p)))
       ∙ rows-said grid
 
-letter-back : (v : ℕ) → v ≤ 2 → letterCell (letterOr 46 v) ≡ v
+letter-back : (v : ℕ) → v ≤ 2 → letterCell (letterOr dot v) ≡ v
 unfolding letterCell letterOr
 letter-back zero h = refl
 letter-back (suc zero) h = refl
@@ -177,33 +184,49 @@ letter-back (suc (suc zero)) h = refl
 letter-back (suc (suc (suc v))) h = omega arith
 
 module _ (grid : List ℕ) where
-  diagram-none : (d : ℕ) → eqb 10 d ≡ false → eqb 32 d ≡ false → eqb 111 d ≡ false → eqb 120 d ≡ false → eqb 46 d ≡ false
-      → has d (diagramOf grid) ≡ false
+  diagram-pass : diagramTextRefusal (diagramOf grid) ≡ 0
+  unfolding diagramTextRefusal first
+  diagram-pass =
+      rw (all-text (diagramOf grid)
+      (diagram-has (λ b. b < 128) (omega arith) (omega arith) (omega arith) (omega arith) (omega arith) grid)
+      (omega (arith, diagram-length grid)))
+      (lines-pass grid (parts newline (trim (diagramOf grid))) (cut-lines grid))
+
+  diagram-said : Cells grid → diagramTextCells (diagramOf grid) ≡ grid
+  unfolding diagramTextCells
+  diagram-said ok =
+      lines-said grid (parts newline (trim (diagramOf grid))) (cut-lines grid)
+      ∙ sym (is-tab grid 225 (λ p. letterCell (letterOr dot (getD grid p 0))) (ok .long)
+      (λ p h. sym (letter-back (getD grid p 0) (ok .small p h))))
+
+  -- cells that are written as a plain diagram read back as the same cells: `text::read_diagram_cells` of what `write_diagram_of` writes
+  pub cells-back : Cells grid
+      → cellsAnswer (diagramTextRefusal (diagramOf grid)) (diagramTextCells (diagramOf grid)) ≡ record { refused = 0; cells = grid }
+  unfolding cellsAnswer
+  cells-back ok = rw (diagram-pass, diagram-said ok)
+
+  -- .. and the live entry, which takes diagrams too, reads it so: it has no slash and no comma
+  diagram-none : (d : ℕ) → eqb newline d ≡ false → eqb blank d ≡ false → eqb smallO d ≡ false → eqb smallX d ≡ false
+      → eqb dot d ≡ false → has d (diagramOf grid) ≡ false
   diagram-none d n s o x e = all-has d (diagramOf grid) (diagram-has (λ b. eqb b d ≡ false) n s o x e grid)
 
-  diagram-pass : readRefusal (diagramOf grid) ≡ 0
-  unfolding readRefusal formRefusal first
-  diagram-pass =
-      rw (
-        all-text (diagramOf grid) (diagram-has (λ b. b < 128) (omega arith) (omega arith) (omega arith) (omega arith) (omega arith) grid)
-            (omega (arith, diagram-length grid)),
-        diagram-none 47 refl refl refl refl refl,
-        diagram-none 44 refl refl refl refl refl,
-      )
-      (lines-pass grid (parts 10 (trim (diagramOf grid))) (cut-lines grid))
+  pub live-same : (readRefusal (diagramOf grid) ≡ diagramTextRefusal (diagramOf grid))
+      × (readCells (diagramOf grid) ≡ diagramTextCells (diagramOf grid))
+  live-same =
+      let p = diagram-none slash refl refl refl refl refl in
+      let q = diagram-none comma refl refl refl refl refl in
+      (as-diagram-refusal (diagramOf grid) p q, as-diagram-cells (diagramOf grid) p q)
 
-  diagram-said : Cells grid → readCells (diagramOf grid) ≡ grid
-  unfolding readCells
-  diagram-said ok =
-      rw (diagram-none 47 refl refl refl refl refl, diagram-none 44 refl refl refl refl refl)
-      (lines-said grid (parts 10 (trim (diagramOf grid))) (cut-lines grid)
-      ∙ sym (is-tab grid 225 (λ p. letterCell (letterOr 46 (getD grid p 0))) (ok .long)
-      (λ p h. sym (letter-back (getD grid p 0) (ok .small p h)))))
+module _ (b : Board) (h : boardRefusal b ≡ 0) where
+  -- a sound board that is written as a plain diagram reads back as the same board: `text::read_diagram` of what `write_diagram` writes
+  pub reads-back : boardAnswer (diagramTextRefusal (diagramOf (cells b))) (diagramTextCells (diagramOf (cells b)))
+      ≡ record { refused = 0; board = b }
+  unfolding boardAnswer answerWith boardOf Sound
+  reads-back =
+      let e : b .lines ≡ linesOf (cells b) = sound-in b h in
+      rw (diagram-pass (cells b), diagram-said (cells b) (cells-cellsOf (b .lines)), ← e)
 
--- a sound board that is written as a plain diagram reads back as the same board: `text::read_board` of what `write_diagram` writes
-pub reads-back : (b : Board) → boardRefusal b ≡ 0
-    → boardAnswer (readRefusal (diagramOf (cells b))) (readCells (diagramOf (cells b))) ≡ record { refused = 0; board = b }
-unfolding boardAnswer boardOf Sound
-reads-back b h =
-    let e : b .lines ≡ linesOf (cells b) = sound-in b h in
-    rw (diagram-pass (cells b), diagram-said (cells b) (cells-cellsOf (b .lines)), ← e)
+  -- .. and by the live entry, `text::read_board`
+  pub reads-back-live : boardAnswer (readRefusal (diagramOf (cells b))) (readCells (diagramOf (cells b)))
+      ≡ record { refused = 0; board = b }
+  reads-back-live = let same = live-same (cells b) in ap₂ boardAnswer (same .0) (same .1) ∙ reads-back

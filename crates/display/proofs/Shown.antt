@@ -12,7 +12,7 @@ use Rattle.rules.specs.Refusals.{first, unless}
 use Rattle.rules.specs.Tools.{gather, only, allBelow}
 use Rattle.rules.specs.Point.{codeOf}
 use Rattle.rules.proofs.Logic.{no-true, all-intro, T-true}
-use Rattle.text.specs.Bytes.{space, dense, has, parts, ontoFirst, textRefusal}
+use Rattle.text.specs.Bytes.{blank, dot, digitZero, smallO, smallX, space, dense, has, parts, ontoFirst, textRefusal}
 use Rattle.display.specs.Texts.{digitText, numberText, letterOr, cellText, lineText, rowText}
 
 -- ---- what each byte of a text has
@@ -50,17 +50,17 @@ all-text s h k =
           (all-intro (length s) (λ i. ltb (getD s i 0) 128) (λ i l. lt→ltb (getD s i 0) 128 (all-at (λ b. b < 128) s h i l))),
     )
 
-pub letter-has : (P : ℕ → Type 0) → P 111 → P 120 → P 46 → (v : ℕ) → P (letterOr 46 v)
+pub letter-has : (P : ℕ → Type 0) → P smallO → P smallX → P dot → (v : ℕ) → P (letterOr dot v)
 unfolding letterOr
 letter-has P o x e v = go (eqb v 1) (eqb v 2)
   where
-    go : (t u : Bool) → P (cond t 111 (cond u 120 46))
+    go : (t u : Bool) → P (cond t smallO (cond u smallX dot))
     go true u = o
     go false true = x
     go false false = e
 
 -- a row: spaces and letters
-pub row-has : (P : ℕ → Type 0) → P 32 → P 111 → P 120 → P 46 → (cells : List ℕ) (y : ℕ) → All P (rowText cells y)
+pub row-has : (P : ℕ → Type 0) → P blank → P smallO → P smallX → P dot → (cells : List ℕ) (y : ℕ) → All P (rowText cells y)
 unfolding rowText lineText
 row-has P s o x e cells y = all-gather P 15 (cellText _) (λ i _. (s, (letter-has P o x e (getD cells (codeOf i y) 0), tt)))
 
@@ -69,13 +69,13 @@ pub only-one : (P : ℕ → Type 0) (b : Bool) (c : ℕ) → P c → All P (only
 only-one P true c h = (h, tt)
 only-one P false c h = tt
 
-pub number-has : (P : ℕ → Type 0) → ((d : ℕ) → d < 10 → P (48 + d)) → (m : ℕ) → m ≤ 15 → All P (numberText m)
+pub number-has : (P : ℕ → Type 0) → ((d : ℕ) → d < 10 → P (digitZero + d)) → (m : ℕ) → m ≤ 15 → All P (numberText m)
 unfolding numberText
 number-has P digit m h =
     all-append P (only (leb 100 m) (digitText (m / 100)) ++ only (leb 10 m) (digitText (m / 10 % 10))) (digitText (m % 10))
     (all-append P (only (leb 100 m) (digitText (m / 100))) (only (leb 10 m) (digitText (m / 10 % 10)))
-    (only-one P (leb 100 m) (48 + m / 100) (digit (m / 100) (omega arith)))
-    (only-one P (leb 10 m) (48 + m / 10 % 10) (digit (m / 10 % 10) (omega arith)))) (digit (m % 10) (omega arith), tt)
+    (only-one P (leb 100 m) (digitZero + m / 100) (digit (m / 100) (omega arith)))
+    (only-one P (leb 10 m) (digitZero + m / 10 % 10) (digit (m / 10 % 10) (omega arith)))) (digit (m % 10) (omega arith), tt)
 
 -- ---- the lines of a text
 
@@ -112,11 +112,11 @@ dense-append (b ∷ s) t = go (space b) (dense-append s t)
 
 -- the letters of some cells
 abbrev pub letters : ℕ → (ℕ → ℕ) → List ℕ
-letters size value = gather size (λ i. letterOr 46 (value i) ∷ [])
+letters size value = gather size (λ i. letterOr dot (value i) ∷ [])
 
 pub dense-cells : (size : ℕ) (value : ℕ → ℕ) → dense (gather size (cellText value)) ≡ letters size value
 unfolding gather dense space
 dense-cells zero value = refl
 dense-cells (suc n) value =
-    let e : space (letterOr 46 (value n)) ≡ false = letter-has (λ b. space b ≡ false) refl refl refl (value n) in
+    let e : space (letterOr dot (value n)) ≡ false = letter-has (λ b. space b ≡ false) refl refl refl (value n) in
     dense-append (gather n (cellText value)) (cellText value n) ∙ rw (dense-cells n value, e)

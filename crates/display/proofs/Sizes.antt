@@ -8,12 +8,13 @@ use native.Mathlib.Omega.{arith}
 use lib.Dec.{leb, ltb}
 use lib.ListN.{length, length-append}
 use borrow.Author.Tests.{ltb-true, ltb-false, lt-ltb, le-leb, lt-leb}
-use Rattle.rules.specs.Point.{yOf}
+use Rattle.rules.specs.Point.{xOf, yOf}
 use Rattle.rules.specs.Tools.{gather, only}
 use Rattle.rules.proofs.Logic.{decide}
 use Rattle.lent.proofs.Laws.{gather-more, only-length}
 use Rattle.line.specs.declared.line.Line.{Line}
 use Rattle.line.specs.Lines.{blacks, whites}
+use Rattle.text.specs.Bytes.{newline, blank, comma, capitalA}
 use Rattle.display.specs.Texts.{digitText, numberText, rightAligned, pointText, itemText, valuesOf, cellText, lineText, textOfLine}
 use Rattle.display.specs.Texts.{rowText, barred, barBefore, segmentText, plainRow, diagramOf, numberedRow, columnsText, numberedOf}
 
@@ -37,13 +38,15 @@ number-short n =
 
 pub point-short : (code : ℕ) → length (pointText code) ≤ 4
 unfolding pointText
-point-short code = omega (arith, number-short (yOf code + 1))
+point-short code =
+    let text = (capitalA + xOf code) ∷ numberText (yOf code + 1) in
+    omega (arith, only-length (ltb code 225) text, number-short (yOf code + 1))
 
 pub item-short : (behind : Bool) (code : ℕ) → length (itemText behind code) ≤ 5
 unfolding itemText
 item-short behind code =
-    let e = length-append (only behind (44 ∷ [])) (pointText code) in
-    omega (arith, only-length behind (44 ∷ []), point-short code)
+    let e = length-append (only behind (comma ∷ [])) (pointText code) in
+    omega (arith, only-length behind (comma ∷ []), point-short code)
 
 -- a number below 100 takes two places
 right-two : (n : ℕ) → n < 100 → length (rightAligned n) ≡ 2
@@ -51,7 +54,7 @@ unfolding rightAligned numberText
 right-two n h = go (decide (ltb n 10))
   where
     go : (ltb n 10 ≡ true) ⊎ (ltb n 10 ≡ false)
-        → length (only (ltb n 10) (32 ∷ [])
+        → length (only (ltb n 10) (blank ∷ [])
         ++ (only (leb 100 n) (digitText (n / 100)) ++ only (leb 10 n) (digitText (n / 10 % 10)) ++ digitText (n % 10))) ≡ 2
     go (inl e) = let l = ltb-true n 10 e in rw (e, lt-leb 100 n h, lt-leb 10 n l)
     go (inr e) = let l = ltb-false n 10 e in rw (e, lt-leb 100 n h, le-leb 10 n l)
@@ -80,7 +83,7 @@ row-length cells y = line-length 15 _
 plain-row-length : (cells : List ℕ) (k : ℕ) → k < 14 → length (plainRow cells k) ≡ 31
 unfolding plainRow
 plain-row-length cells k h =
-    rw (lt-ltb k 14 h) (length-append (rowText cells (14 - k)) (10 ∷ []) ∙ ap (λ (n : ℕ). n + 1) (row-length cells (14 - k)))
+    rw (lt-ltb k 14 h) (length-append (rowText cells (14 - k)) (newline ∷ []) ∙ ap (λ (n : ℕ). n + 1) (row-length cells (14 - k)))
 
 last-row-length : (cells : List ℕ) → length (plainRow cells 14) ≡ 30
 unfolding plainRow
@@ -99,7 +102,7 @@ unfolding numberedRow
 numbered-row-length cells k h =
     let a = rightAligned (15 - k) in
     let b = rowText cells (14 - k) in
-    let x = length-append (a ++ b) (10 ∷ []) in
+    let x = length-append (a ++ b) (newline ∷ []) in
     let y = length-append a b in
     omega (arith, right-two (15 - k) (omega arith), row-length cells (14 - k))
 

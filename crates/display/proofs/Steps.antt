@@ -14,12 +14,13 @@ use Rattle.rules.proofs.Lists.{gather-cong, getD-tab}
 use Rattle.rules.proofs.Refusals.{first-none, passed}
 use Rattle.line.specs.declared.line.Line.{Line}
 use Rattle.line.specs.Lines.{blacks, whites, sizeRefusal, lineRefusal}
+use Rattle.text.specs.Bytes.{blank, dot}
 use Rattle.display.specs.Texts.{letterOr, valuesOf, cellText, lineText, textOfLine, stepped, rowText}
 
 line-same : (size : ℕ) (f g : ℕ → ℕ) → ((i : ℕ) → i < size → f i ≡ g i) → lineText size f ≡ lineText size g
 unfolding lineText
 line-same size f g h =
-    gather-cong size (cellText f) (cellText g) (λ i l. ap (λ (v : ℕ). 32 ∷ letterOr 46 v ∷ []) (h i l))
+    gather-cong size (cellText f) (cellText g) (λ i l. ap (λ (v : ℕ). blank ∷ letterOr dot v ∷ []) (h i l))
 
 pub row-steps : (cells : List ℕ) (y : ℕ) → lineText 15 (stepped cells y 15) ≡ rowText cells y
 unfolding rowText

@@ -11,34 +11,37 @@ use Rattle.rules.specs.Refusals.{first, unless}
 use Rattle.rules.specs.Tools.{gather, only}
 use Rattle.rules.specs.Point.{codeOf}
 use Rattle.rules.proofs.Logic.{all-fails}
+use Rattle.text.specs.Bytes.{newline, blank, comma, dot, slash, digitZero, capitalA, capitalO, smallO, smallX}
 use Rattle.text.specs.Bytes.{space, trim, trimStart, trimEnd, dense, has, parts}
-use Rattle.text.specs.Reading.{sizeAt, diagramRefusal, formRefusal, readRefusal}
+use Rattle.text.specs.Reading.{sizeAt, diagramRefusal, diagramTextRefusal, readRefusal}
 use Rattle.text.proofs.Places.{end-more}
+use Rattle.text.proofs.Said.{as-diagram-refusal}
 use Rattle.display.specs.Texts.{numberText, rightAligned, lineText, rowText, numberedRow, columnsText, numberedOf}
 use Rattle.display.proofs.Sizes.{numbered-length}
 use Rattle.display.proofs.Shown.{All, only-one, number-has, all-append, all-gather, all-has, all-text, row-has, parts-line}
 use Rattle.display.proofs.Shown.{dense-cells}
 
 -- ---- its bytes: byte 10, spaces, the three letters of cells, digits, the letters of the columns
-module _ (P : ℕ → Type 0) (n : P 10) (s : P 32) (o : P 111) (x : P 120) (e : P 46) (digit : (d : ℕ) → d < 10 → P (48 + d))
-    (column : (k : ℕ) → k < 15 → P (65 + k)) where
+module _ (P : ℕ → Type 0) (n : P newline) (s : P blank) (o : P smallO) (x : P smallX) (e : P dot)
+    (digit : (d : ℕ) → d < 10 → P (digitZero + d))
+    (column : (k : ℕ) → k < 15 → P (capitalA + k)) where
   right-has : (m : ℕ) → m ≤ 15 → All P (rightAligned m)
   unfolding rightAligned
-  right-has m h = all-append P (only (ltb m 10) (32 ∷ [])) (numberText m) (only-one P (ltb m 10) 32 s) (number-has P digit m h)
+  right-has m h = all-append P (only (ltb m 10) (blank ∷ [])) (numberText m) (only-one P (ltb m 10) blank s) (number-has P digit m h)
 
   line-has : (grid : List ℕ) (k : ℕ) → All P (numberedRow grid k)
   unfolding numberedRow
   line-has grid k =
-      all-append P (rightAligned (15 - k) ++ rowText grid (14 - k)) (10 ∷ [])
+      all-append P (rightAligned (15 - k) ++ rowText grid (14 - k)) (newline ∷ [])
       (all-append P (rightAligned (15 - k)) (rowText grid (14 - k)) (right-has (15 - k) (omega arith)) (row-has P s o x e grid (14 - k)))
       (n, tt)
 
   columns-has : All P columnsText
   unfolding columnsText
   columns-has =
-      all-append P (32 ∷ 32 ∷ 32 ∷ []) (gather 15 (λ k. only (ltb 0 k) (32 ∷ []) ++ ((65 + k) ∷ []))) (s, (s, (s, tt)))
-      (all-gather P 15 (λ k. only (ltb 0 k) (32 ∷ []) ++ ((65 + k) ∷ []))
-      (λ k h. all-append P (only (ltb 0 k) (32 ∷ [])) ((65 + k) ∷ []) (only-one P (ltb 0 k) 32 s) (column k h, tt)))
+      all-append P (blank ∷ blank ∷ blank ∷ []) (gather 15 (λ k. only (ltb 0 k) (blank ∷ []) ++ ((capitalA + k) ∷ []))) (s, (s, (s, tt)))
+      (all-gather P 15 (λ k. only (ltb 0 k) (blank ∷ []) ++ ((capitalA + k) ∷ []))
+      (λ k h. all-append P (only (ltb 0 k) (blank ∷ [])) ((capitalA + k) ∷ []) (only-one P (ltb 0 k) blank s) (column k h, tt)))
 
   numbered-has : (grid : List ℕ) → All P (numberedOf grid)
   unfolding numberedOf
@@ -46,22 +49,22 @@ module _ (P : ℕ → Type 0) (n : P 10) (s : P 32) (o : P 111) (x : P 120) (e :
       all-append P (gather 15 (numberedRow grid)) columnsText (all-gather P 15 (numberedRow grid) (λ k _. line-has grid k)) columns-has
 
 -- ---- it is no list
-numbered-none : (grid : List ℕ) (d : ℕ) → d < 48 → eqb 10 d ≡ false → eqb 32 d ≡ false → eqb 46 d ≡ false → has d (numberedOf grid)
-    ≡ false
+numbered-none : (grid : List ℕ) (d : ℕ) → d < digitZero → eqb newline d ≡ false → eqb blank d ≡ false → eqb dot d ≡ false
+    → has d (numberedOf grid) ≡ false
 numbered-none grid d h n s e =
     all-has d (numberedOf grid)
-    (numbered-has (λ b. eqb b d ≡ false) n s (ne-eqb 111 d (λ w. omega arith)) (ne-eqb 120 d (λ w. omega arith)) e
-    (λ k l. ne-eqb (48 + k) d (λ w. omega arith)) (λ k l. ne-eqb (65 + k) d (λ w. omega arith)) grid)
+    (numbered-has (λ b. eqb b d ≡ false) n s (ne-eqb smallO d (λ w. omega arith)) (ne-eqb smallX d (λ w. omega arith)) e
+    (λ k l. ne-eqb (digitZero + k) d (λ w. omega arith)) (λ k l. ne-eqb (capitalA + k) d (λ w. omega arith)) grid)
 
 -- ---- its first line
 first-line : List ℕ → List ℕ
-first-line grid = 49 ∷ 53 ∷ rowText grid 14
+first-line grid = (digitZero + 1) ∷ (digitZero + 5) ∷ rowText grid 14
 
-shape : (grid : List ℕ) → numberedOf grid ≡ first-line grid ++ 10 ∷ drop 33 (numberedOf grid)
+shape : (grid : List ℕ) → numberedOf grid ≡ first-line grid ++ newline ∷ drop 33 (numberedOf grid)
 unfolding numberedOf numberedRow rightAligned numberText rowText lineText gather columnsText first-line
 shape grid = refl
 
-last-byte : (grid : List ℕ) → numberedOf grid ≡ take 526 (numberedOf grid) ++ (79 ∷ [])
+last-byte : (grid : List ℕ) → numberedOf grid ≡ take 526 (numberedOf grid) ++ (capitalO ∷ [])
 unfolding numberedOf numberedRow rightAligned numberText rowText lineText gather columnsText
 last-byte grid = refl
 
@@ -71,39 +74,45 @@ start-kept grid = rw (shape grid)
 
 end-kept : (grid : List ℕ) → trimEnd (numberedOf grid) ≡ numberedOf grid
 unfolding space
-end-kept grid = ap trimEnd (last-byte grid) ∙ end-more (take 526 (numberedOf grid)) 79 ∙ sym (last-byte grid)
+end-kept grid = ap trimEnd (last-byte grid) ∙ end-more (take 526 (numberedOf grid)) capitalO ∙ sym (last-byte grid)
 
 numbered-kept : (grid : List ℕ) → trim (numberedOf grid) ≡ numberedOf grid
 unfolding trim
 numbered-kept grid = rw (start-kept grid) (end-kept grid)
 
-line-clear : (grid : List ℕ) → has 10 (first-line grid) ≡ false
+line-clear : (grid : List ℕ) → has newline (first-line grid) ≡ false
 unfolding has first-line
-line-clear grid = all-has 10 (rowText grid 14) (row-has (λ b. eqb b 10 ≡ false) refl refl refl refl grid 14)
+line-clear grid = all-has newline (rowText grid 14) (row-has (λ b. eqb b newline ≡ false) refl refl refl refl grid 14)
 
 line-cells : (grid : List ℕ) → length (dense (first-line grid)) ≡ 17
 unfolding dense space first-line rowText lineText gather
-line-cells grid = ap (λ (l : List ℕ). length (49 ∷ 53 ∷ l)) (dense-cells 15 (λ x. getD grid (codeOf x 14) 0))
+line-cells grid = ap (λ (l : List ℕ). length ((digitZero + 1) ∷ (digitZero + 5) ∷ l)) (dense-cells 15 (λ x. getD grid (codeOf x 14) 0))
 
-numbered-lines : (grid : List ℕ) → parts 10 (numberedOf grid) ≡ first-line grid ∷ parts 10 (drop 33 (numberedOf grid))
-numbered-lines grid = ap (parts 10) (shape grid) ∙ parts-line 10 (first-line grid) (drop 33 (numberedOf grid)) (line-clear grid) refl
+numbered-lines : (grid : List ℕ) → parts newline (numberedOf grid) ≡ first-line grid ∷ parts newline (drop 33 (numberedOf grid))
+numbered-lines grid =
+    ap (parts newline) (shape grid) ∙ parts-line newline (first-line grid) (drop 33 (numberedOf grid)) (line-clear grid) refl
 
 long-refused : (l : List ℕ) (ls : List (List ℕ)) → length (dense l) ≡ 17 → diagramRefusal (l ∷ ls) ≡ 5
 unfolding diagramRefusal first unless sizeAt
 long-refused l ls e =
     rw (all-fails (length (l ∷ ls)) (λ k. leb (length (dense (getD (l ∷ ls) k []))) 15) 0 (omega arith) (rw e))
 
--- the numbered form is refused 5
-pub numbered-refused : (grid : List ℕ) → readRefusal (numberedOf grid) ≡ 5
-unfolding readRefusal formRefusal first
+-- the numbered form is refused 5 by `text::read_diagram`
+pub numbered-refused : (grid : List ℕ) → diagramTextRefusal (numberedOf grid) ≡ 5
+unfolding diagramTextRefusal first
 numbered-refused grid =
     rw (
       all-text (numberedOf grid)
           (numbered-has (λ b. b < 128) (omega arith) (omega arith) (omega arith) (omega arith) (omega arith) (λ d h. omega arith)
           (λ k h. omega arith) grid) (omega (arith, numbered-length grid)),
-      numbered-none grid 47 (omega arith) refl refl refl,
-      numbered-none grid 44 (omega arith) refl refl refl,
       numbered-kept grid,
       numbered-lines grid,
     )
-    (long-refused (first-line grid) (parts 10 (drop 33 (numberedOf grid))) (line-cells grid))
+    (long-refused (first-line grid) (parts newline (drop 33 (numberedOf grid))) (line-cells grid))
+
+-- .. and by the live entry, `text::read_board`
+pub numbered-refused-live : (grid : List ℕ) → readRefusal (numberedOf grid) ≡ 5
+numbered-refused-live grid =
+    as-diagram-refusal (numberedOf grid) (numbered-none grid slash (omega arith) refl refl refl)
+    (numbered-none grid comma (omega arith) refl refl refl)
+    ∙ numbered-refused grid

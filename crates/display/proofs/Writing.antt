@@ -15,8 +15,8 @@ use Rattle.lent.specs.Lists.{fits, listRefusal, listOut, keeps, keptTo, keptIn,
 use Rattle.lent.proofs.Laws.{wrote-none, wrote-keep, wrote-all, wrote-same, wrote-held, held-take, sets-laid, kept-out}
 use Rattle.display.specs.declared.answer.LengthAnswer.{LengthAnswer}
 use Rattle.display.specs.declared.answer.LengthAnswer.the-variants as answer
-use Rattle.display.specs.declared.number.Word.{Word}
-use Rattle.display.specs.Answers.{lengthAnswer, written, wordOf}
+use Rattle.display.specs.declared.number.Label.{Label}
+use Rattle.display.specs.Answers.{lengthAnswer, written, labelOf}
 
 -- ---- one text, and another behind it
 
@@ -72,17 +72,23 @@ part-room f i n h w room =
 
 -- ---- a short text by value
 
-pub word-held : (text : List ℕ) (w : Word) → w ≡ wordOf text → Held 4 text (w .bytes) (w .len)
-unfolding wordOf
-word-held text w e = record { buffer = ap (λ (x : Word). x .bytes) e; count = ap (λ (x : Word). x .len) e }
+pub word-held : (text : List ℕ) (w : Label) → w ≡ labelOf text → Held 4 text (w .bytes) (w .len)
+unfolding labelOf
+word-held text w e = record { buffer = ap (λ (x : Label). x .bytes) e; count = ap (λ (x : Label). x .len) e }
 
-pub held-word : (text bytes : List ℕ) (n : ℕ) → Held 4 text bytes n → _≡_ {A = Word} (record { bytes = bytes; len = n }) (wordOf text)
-unfolding wordOf
+pub held-word : (text bytes : List ℕ) (n : ℕ) → Held 4 text bytes n → _≡_ {A = Label} (record { bytes = bytes; len = n }) (labelOf text)
+unfolding labelOf
 held-word text bytes n h = rw (h .buffer, h .count)
 
 -- ---- a text handed out, or what was refused given back alone; `told` is what the refusal means
 
 module _ {refused told : ℕ} (out text : List ℕ) (e : refused ≡ told) where
+  -- a text that another function handed out
+  pub handed-as : {same : List ℕ} {r : LengthAnswer} {out′ : List ℕ} → same ≡ text
+      → (r ≡ written refused out same) × (out′ ≡ listOut refused out same) → (r ≡ written told out text) × (out′ ≡ listOut told out text)
+  handed-as s k =
+      (k .0 ∙ ap₂ (λ (m : ℕ) (x : List ℕ). written m out x) e s, k .1 ∙ ap₂ (λ (m : ℕ) (x : List ℕ). listOut m out x) e s)
+
   -- a text that a local buffer holds
   pub handed-held : (size : ℕ) {bytes : List ℕ} {n : ℕ} {r : LengthAnswer} {out′ : List ℕ} → Held size text bytes n
       → (r ≡ lengthAnswer (listRefusal refused out (take n bytes)) n) × (out′ ≡ listOut refused out (take n bytes))

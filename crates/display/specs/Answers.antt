@@ -5,7 +5,7 @@ use Prim.Native.Nat.{ℕ}
 use lib.Dec.{eqb}
 use lib.ListN.{length}
 use Rattle.lent.specs.Lists.{listRefusal, padded}
-use Rattle.display.specs.declared.number.Word.{Word}
+use Rattle.display.specs.declared.number.Label.{Label}
 use Rattle.display.specs.declared.answer.LengthAnswer.{LengthAnswer}
 use Rattle.display.specs.declared.answer.LengthAnswer.the-variants as answer
 
@@ -17,5 +17,5 @@ unfoldable pub written : ℕ → List ℕ → List ℕ → LengthAnswer
 written refused out text = lengthAnswer (listRefusal refused out text) (length text)
 
 -- a text of at most four bytes by value, with zeros behind it
-unfoldable pub wordOf : List ℕ → Word
-wordOf text = record { bytes = padded 4 text; len = length text }
+unfoldable pub labelOf : List ℕ → Label
+labelOf text = record { bytes = padded 4 text; len = length text }

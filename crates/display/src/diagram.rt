@@ -4,11 +4,13 @@ use super::layout::hand_out;
 use super::layout::keep_byte;
 use super::line_text::line_into;
 use board::Board;
-use grid::cells_of;
+use cells::cells_refusal;
+use grid::cells_on;
 ghost use mathlib.Core.Path.{_≡_};
 ghost use Prim.Native.Nat.{_+_, _<_, _≤_};
 ghost use lib.ListN.{length};
 ghost use Rattle.lent.specs.Lists.{listOut, Wrote};
+ghost use Rattle.cells.specs.Cells.{cellsRefusal};
 ghost use Rattle.board.specs.Boards.{cells, boardRefusal};
 ghost use Rattle.display.specs.Answers.{written};
 ghost use Rattle.display.specs.Texts.{rowText, plainRow, diagramOf};
@@ -18,11 +20,23 @@ pub fn write_diagram(board: Board, out: &mut [u8]) -> LengthAnswer
     ensures { λ r. ⌜ (r ≡ written (boardRefusal board) (now (out .entry)) (diagramOf (cells board)))
         × (now (out .exit) ≡ listOut (boardRefusal board) (now (out .entry)) (diagramOf (cells board))) ⌝ }
 {
+    let refused = board.refusal();
+    if refused != 0 {
+        return LengthAnswer::Refused(refused);
+    }
     let lines = board.lines;
-    let cells = cells_of(&lines);
+    let cells = cells_on(&lines);
+    write_diagram_of(&cells, out)
+}
+
+// The same of cell bytes: 9 for bytes of another length than 225, or with a byte over 2.
+pub fn write_diagram_of(cells: &[u8], out: &mut [u8]) -> LengthAnswer
+    ensures { λ r. ⌜ (r ≡ written (cellsRefusal (now (cells .entry))) (now (out .entry)) (diagramOf (now (cells .entry))))
+        × (now (out .exit) ≡ listOut (cellsRefusal (now (cells .entry))) (now (out .entry)) (diagramOf (now (cells .entry)))) ⌝ }
+{
     let mut bytes = [0u8; 464];
-    let n = diagram_into(&mut bytes, &cells);
-    hand_out(board.refusal(), &bytes, n, out)
+    let n = diagram_into(&mut bytes, cells);
+    hand_out(cells_refusal(cells), &bytes, n, out)
 }
 
 // The rows from the front on; the next place.

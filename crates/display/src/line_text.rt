@@ -1,7 +1,7 @@
 // A line's cells, each a space and a letter: of a line alone, and of the rows of a diagram.
 use super::answer::LengthAnswer;
 use super::layout::hand_out;
-use grid::value_at;
+use cells::value_at;
 use lent::keep;
 use line::Line;
 use masks::cell_value;

@@ -4,22 +4,22 @@ ghost use mathlib.Core.Path.{_≡_};
 ghost use Prim.Native.Nat.{_+_, _≤_};
 ghost use lib.ListN.{length};
 ghost use Rattle.lent.specs.Lists.{Wrote};
-ghost use Rattle.display.specs.Answers.{wordOf};
+ghost use Rattle.display.specs.Answers.{labelOf};
 ghost use Rattle.display.specs.Texts.{numberText};
 
 // A short text by value: its bytes, zeros behind them, and how many there are.
-pub struct Word {
+pub struct Label {
     pub bytes: [u8; 4],
     pub len: usize,
 }
 
 // A number in digits, without leading zeros.
-pub fn number_word(n: u8) -> Word
-    ensures { λ r. ⌜ r ≡ wordOf (numberText n) ⌝ }
+pub fn number_label(n: u8) -> Label
+    ensures { λ r. ⌜ r ≡ labelOf (numberText n) ⌝ }
 {
     let mut bytes = [0u8; 4];
     let len = number_into(&mut bytes, 0, n);
-    Word { bytes, len }
+    Label { bytes, len }
 }
 
 // The digits of a number from place `at` on; the next place.

@@ -5,13 +5,15 @@ use super::layout::hand_out;
 use super::layout::keep_byte;
 use super::number::number_into;
 use board::Board;
-use grid::cells_of;
+use cells::cells_refusal;
+use grid::cells_on;
 use lent::keep;
 ghost use mathlib.Core.Path.{_≡_};
 ghost use Prim.Native.Nat.{_+_, _<_, _≤_};
 ghost use lib.ListN.{length};
 ghost use Rattle.rules.specs.Tools.{gather};
 ghost use Rattle.lent.specs.Lists.{listOut, Wrote};
+ghost use Rattle.cells.specs.Cells.{cellsRefusal};
 ghost use Rattle.board.specs.Boards.{cells, boardRefusal};
 ghost use Rattle.display.specs.Answers.{written};
 ghost use Rattle.display.specs.Texts.{rightAligned, numberedRow, numberedOf};
@@ -21,11 +23,23 @@ pub fn write_numbered(board: Board, out: &mut [u8]) -> LengthAnswer
     ensures { λ r. ⌜ (r ≡ written (boardRefusal board) (now (out .entry)) (numberedOf (cells board)))
         × (now (out .exit) ≡ listOut (boardRefusal board) (now (out .entry)) (numberedOf (cells board))) ⌝ }
 {
+    let refused = board.refusal();
+    if refused != 0 {
+        return LengthAnswer::Refused(refused);
+    }
     let lines = board.lines;
-    let cells = cells_of(&lines);
+    let cells = cells_on(&lines);
+    write_numbered_of(&cells, out)
+}
+
+// The same of cell bytes: 9 for bytes of another length than 225, or with a byte over 2.
+pub fn write_numbered_of(cells: &[u8], out: &mut [u8]) -> LengthAnswer
+    ensures { λ r. ⌜ (r ≡ written (cellsRefusal (now (cells .entry))) (now (out .entry)) (numberedOf (now (cells .entry))))
+        × (now (out .exit) ≡ listOut (cellsRefusal (now (cells .entry))) (now (out .entry)) (numberedOf (now (cells .entry)))) ⌝ }
+{
     let mut bytes = [0u8; 527];
-    let n = numbered_into(&mut bytes, &cells);
-    hand_out(board.refusal(), &bytes, n, out)
+    let n = numbered_into(&mut bytes, cells);
+    hand_out(cells_refusal(cells), &bytes, n, out)
 }
 
 // The rows and the letters from the front on; the next place.

@@ -2,37 +2,37 @@
 use super::answer::LengthAnswer;
 use super::layout::hand_out;
 use super::layout::keep_byte;
-use super::number::Word;
+use super::number::Label;
 use super::number::number_into;
-use board::codes_refusal;
+use cells::codes_refusal;
 use point::code_refusal;
 ghost use mathlib.Core.Path.{_≡_};
 ghost use Prim.Native.Nat.{_+_, _≤_};
 ghost use lib.Dec.{leb};
 ghost use lib.ListN.{length};
 ghost use Rattle.lent.specs.Lists.{listOut, Wrote};
-ghost use Rattle.point.specs.Points.{codeRefusal};
-ghost use Rattle.board.specs.Boards.{codesRefusal};
-ghost use Rattle.display.specs.Answers.{written, wordOf};
+ghost use Rattle.display.specs.Answers.{written, labelOf};
 ghost use Rattle.display.specs.Texts.{pointText, itemText, pointsText};
+ghost use Rattle.rules.specs.Refusals.{codeRefusal};
+ghost use Rattle.cells.specs.Cells.{codesRefusal};
 
 // A point: 8 for a code over 224.
 pub fn write_point(code: u8, out: &mut [u8]) -> LengthAnswer
     ensures { λ r. ⌜ (r ≡ written (codeRefusal code) (now (out .entry)) (pointText code))
         × (now (out .exit) ≡ listOut (codeRefusal code) (now (out .entry)) (pointText code)) ⌝ }
 {
-    let word = point_word(code);
-    let bytes = word.bytes;
-    hand_out(code_refusal(code), &bytes, word.len, out)
+    let label = point_label(code);
+    let bytes = label.bytes;
+    hand_out(code_refusal(code), &bytes, label.len, out)
 }
 
-// The same by value. A code over 224 names no point: its letter is past O.
-pub fn point_word(code: u8) -> Word
-    ensures { λ r. ⌜ r ≡ wordOf (pointText code) ⌝ }
+// The same by value; no byte for a code over 224.
+pub fn point_label(code: u8) -> Label
+    ensures { λ r. ⌜ r ≡ labelOf (pointText code) ⌝ }
 {
     let mut bytes = [0u8; 4];
     let len = point_into(&mut bytes, 0, code);
-    Word { bytes, len }
+    Label { bytes, len }
 }
 
 // A list of points: 8 where a code is over 224. There may be any number of them, so no local buffer is sure to hold the text: it is
@@ -99,11 +99,14 @@ fn item_into(buf: &mut [u8], at: usize, behind: bool, code: u8) -> usize
     point_into(buf, next, code)
 }
 
-// A point from place `at` on; the next place.
+// A point from place `at` on; the next place. A code over 224 names no point: nothing is written.
 fn point_into(buf: &mut [u8], at: usize, code: u8) -> usize
     requires { ⌜ at + length (pointText code) ≤ length (now buf) ⌝ }
     ensures { λ r. ⌜ Wrote (now (buf .entry)) at (pointText code) (now (buf .exit)) r ⌝ }
 {
+    if 224 < code {
+        return at;
+    }
     let next = keep_byte(buf, at, true, b'A' + code / 15);
     number_into(buf, next, code % 15 + 1)
 }

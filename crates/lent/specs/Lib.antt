@@ -1,2 +1,3 @@
 -- What the contracts of `lent` cite.
 pub mod Lists
+pub mod Slices

@@ -6,7 +6,7 @@ use Prim.Native.Nat.{ℕ, _+_, _-_, _/_}
 use lib.Dec.{leb, eqb}
 use lib.ListN.{length, drop, replicate}
 use lib.Seq.{sets}
-use Rattle.rules.specs.Refusals.{first, unless}
+use Rattle.rules.specs.Refusals.{noRoom, unless, first}
 use Rattle.rules.specs.Answers.{countAnswer}
 use Rattle.rules.specs.declared.answer.CountAnswer.{CountAnswer}
 
@@ -20,7 +20,7 @@ laid old new = new ++ drop (length new) old
 
 -- the refusal of a function that lists: that of its arguments, if any, else 13 where the list does not fit
 unfoldable pub listRefusal : ℕ → List ℕ → List ℕ → ℕ
-listRefusal refused out a = first refused (unless (fits out a) 13)
+listRefusal refused out a = first refused (unless (fits out a) noRoom)
 
 -- the lent buffer after it: the list in front, or as it was where something is refused
 unfoldable pub listOut : ℕ → List ℕ → List ℕ → List ℕ

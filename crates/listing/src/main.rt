@@ -1,10 +1,10 @@
 // Lists the forbidden points of the board whose text stands on standard input, as section 7 says: each with its kind, then the count; or
 // the refusal.
 use display::LengthAnswer;
+use lent::head;
 use libc::STDIN_FILENO;
 use libc::STDOUT_FILENO;
 use report::write_listing;
-use text::head;
 ghost use mathlib.Core.Path.{_≡_};
 ghost use lib.ListN.{length};
 

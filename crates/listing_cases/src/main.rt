@@ -1,14 +1,14 @@
 // Lists the texts of cases on standard input. A line that starts with `==` opens a case and names it; the lines below it are its text. Each
 // name is written, and below it the listing of its text.
 use display::LengthAnswer;
+use lent::head;
+use lent::tail;
 use libc::STDIN_FILENO;
 use libc::STDOUT_FILENO;
 use records::byte_at;
 use records::line_at;
 use records::next_line;
 use report::write_listing;
-use text::head;
-use text::tail;
 ghost use Prim.Native.Nat.{_<_};
 ghost use lib.ListN.{length};
 

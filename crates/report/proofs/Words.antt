@@ -9,8 +9,9 @@ use lib.ListN.{length, take, length-append}
 use Rattle.rules.specs.Tools.{gather}
 use Rattle.lent.specs.Lists.{Wrote, keptTo, keptIn}
 use Rattle.lent.proofs.Laws.{gather-length, held-take, wrote-as}
-use Rattle.display.specs.declared.number.Word.{Word}
-use Rattle.display.specs.Answers.{wordOf}
+use Rattle.text.specs.Bytes.{newline, blank}
+use Rattle.display.specs.declared.number.Label.{Label}
+use Rattle.display.specs.Answers.{labelOf}
 use Rattle.display.specs.Texts.{numberText, pointText}
 use Rattle.display.proofs.Writing.{kept, word-held}
 use Rattle.display.proofs.Sizes.{number-short, point-short}
@@ -27,22 +28,22 @@ kind-short kind = go (eqb kind 1) (eqb kind 2)
     go false true = omega arith
     go false false = omega arith
 
-pub line-short : (kind code : ℕ) → length (pointLine kind code) ≤ 17
+pub entry-short : (kind code : ℕ) → length (pointLine kind code) ≤ 17
 unfolding pointLine
-line-short kind code =
-    let a = length-append (pointText code) (32 ∷ []) in
-    let b = length-append (pointText code ++ (32 ∷ [])) (kindText kind) in
-    let d = length-append (pointText code ++ (32 ∷ []) ++ kindText kind) (10 ∷ []) in
+entry-short kind code =
+    let a = length-append (pointText code) (blank ∷ []) in
+    let b = length-append (pointText code ++ (blank ∷ [])) (kindText kind) in
+    let d = length-append (pointText code ++ (blank ∷ []) ++ kindText kind) (newline ∷ []) in
     omega (arith, point-short code, kind-short kind)
 
 pub lines-short : (pairs : List ℕ) (n : ℕ) → length (gather n (pairText pairs)) ≤ n * 17
-lines-short pairs n = gather-length 17 n (pairText pairs) (λ i _. line-short _ _)
+lines-short pairs n = gather-length 17 n (pairText pairs) (λ i _. entry-short _ _)
 
 pub count-short : (word : List ℕ) (n : ℕ) → length word ≤ 10 → length (countText word n) ≤ 14
 unfolding countText
 count-short word n h =
     let a = length-append word (numberText n) in
-    let b = length-append (word ++ numberText n) (10 ∷ []) in
+    let b = length-append (word ++ numberText n) (newline ∷ []) in
     omega (arith, number-short n)
 
 -- ---- an item that fits
@@ -52,7 +53,7 @@ module _ (item : List ℕ) {buf : List ℕ} {n r : ℕ} {buf′ : List ℕ}
   put m short room = kept true item (omega arith) k
 
   -- .. that is a word by value
-  pub put-word : (text : List ℕ) (w : Word) → w ≡ wordOf text → item ≡ take (w .len) (w .bytes) → length text ≤ 4 → n + 4 ≤ length buf
+  pub put-word : (text : List ℕ) (w : Label) → w ≡ labelOf text → item ≡ take (w .len) (w .bytes) → length text ≤ 4 → n + 4 ≤ length buf
       → Wrote buf n text buf′ r
   put-word text w is e short room =
       let same = e ∙ held-take 4 (word-held text w is) in

@@ -9,6 +9,7 @@ use Rattle.rules.specs.Tools.{gather}
 use Rattle.rules.specs.Forbidden.{forbiddenList}
 use Rattle.rules.specs.declared.answer.CountAnswer.{CountAnswer}
 use Rattle.rules.specs.declared.answer.CountAnswer.the-variants as count
+use Rattle.text.specs.Bytes.{newline, blank}
 use Rattle.text.specs.Reading.{readRefusal, readCells}
 use Rattle.display.specs.Texts.{numberText, pointText}
 
@@ -37,11 +38,11 @@ kindText kind = cond (eqb kind 1) doubleThree (cond (eqb kind 2) doubleFour over
 
 -- a point and its kind, as "H8 DoubleThree"
 unfoldable pub pointLine : ℕ → ℕ → List ℕ
-pointLine kind code = pointText code ++ (32 ∷ []) ++ kindText kind ++ (10 ∷ [])
+pointLine kind code = pointText code ++ (blank ∷ []) ++ kindText kind ++ (newline ∷ [])
 
 -- a word and a number, as "forbidden 1"
 unfoldable pub countText : List ℕ → ℕ → List ℕ
-countText word n = word ++ numberText n ++ (10 ∷ [])
+countText word n = word ++ numberText n ++ (newline ∷ [])
 
 -- line i of a list of pairs, kind and code
 abbrev pub pairText : List ℕ → ℕ → List ℕ

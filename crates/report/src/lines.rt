@@ -1,8 +1,8 @@
 // The lines of a listing, written into a buffer one behind the other. Each function gives the next place.
-use display::number_word;
-use display::point_word;
+use display::number_label;
+use display::point_label;
+use lent::head;
 use lent::keep;
-use text::head;
 ghost use Prim.Native.Nat.{_+_, _*_, _≤_};
 ghost use lib.ListN.{length};
 ghost use Rattle.lent.specs.Lists.{Wrote};
@@ -51,18 +51,18 @@ fn point_into(buf: &mut [u8], at: usize, code: u8) -> usize
     requires { ⌜ at + 4 ≤ length (now buf) ⌝ }
     ensures { λ r. ⌜ Wrote (now (buf .entry)) at (pointText code) (now (buf .exit)) r ⌝ }
 {
-    let word = point_word(code);
-    let bytes = word.bytes;
-    keep(buf, at, true, head(&bytes, word.len))
+    let label = point_label(code);
+    let bytes = label.bytes;
+    keep(buf, at, true, head(&bytes, label.len))
 }
 
 fn number_into(buf: &mut [u8], at: usize, n: u8) -> usize
     requires { ⌜ at + 4 ≤ length (now buf) ⌝ }
     ensures { λ r. ⌜ Wrote (now (buf .entry)) at (numberText n) (now (buf .exit)) r ⌝ }
 {
-    let word = number_word(n);
-    let bytes = word.bytes;
-    keep(buf, at, true, head(&bytes, word.len))
+    let label = number_label(n);
+    let bytes = label.bytes;
+    keep(buf, at, true, head(&bytes, label.len))
 }
 
 // A word and a number.

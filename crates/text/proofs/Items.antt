@@ -15,12 +15,13 @@ use Rattle.rules.specs.declared.answer.NumberAnswer.the-variants as number
 use Rattle.rules.proofs.Logic.{decide}
 use Rattle.rules.proofs.Refusals.{given, first-none}
 use Rattle.lent.specs.Lists.{Wrote, zeros, keptTo, keptIn}
-use Rattle.lent.proofs.Laws.{wrote-none, wrote-as, wrote-keep, wrote-held, length-zeros}
-use Rattle.text.specs.Bytes.{parts, findAt, textRefusal}
+use Rattle.lent.specs.Slices.{findAt}
+use Rattle.lent.proofs.Laws.{wrote-as, wrote-keep, wrote-held, length-zeros}
+use Rattle.text.specs.Bytes.{comma, trim, parts, textRefusal}
 use Rattle.text.specs.Points.{oneByte, twoBytes, numberOf, columnIn, rowIn, itemAt, itemRefusal, itemCode, itemsRefusal, itemCodes}
-use Rattle.text.specs.Points.{pointsRefusal, pointsIn, pointTextRefusal, noCodes, Collected}
+use Rattle.text.specs.Points.{leadingCodes, slipNumber, pointsRefusal, leadingIn, slipIn, pointTextRefusal, leadingAnswer, listFound}
 use Rattle.text.specs.declared.point.Item.{Item}
-use Rattle.text.specs.declared.points.Codes.{Codes}
+use Rattle.text.specs.declared.points.Leading.{Leading}
 use Rattle.text.proofs.Places.{parts-last, parts-cut}
 use Rattle.text.proofs.Marks.{next-in, next-is, next-rest, next-none}
 
@@ -90,24 +91,38 @@ module _ (d : ℕ) (t rest part : List ℕ) (i end : ℕ) (er : rest ≡ drop i 
   part-in h k = let n = ap length er in omega (arith, length-drop i t)
 
 -- ---- a comma list
-pub items-refused : (items others : List (List ℕ)) (item : List ℕ) → items ≡ item ∷ others → (itemRefusal item ≡ 0 → ⊥)
-    → itemsRefusal items ≡ itemRefusal item
-unfolding itemsRefusal first
-items-refused items others item e n = rw (e, ne-eqb (itemRefusal item) 0 n)
+module _ (items others : List (List ℕ)) (item : List ℕ) (e : items ≡ item ∷ others) where
+  -- its first item is refused: nothing is kept
+  module _ (n : itemRefusal item ≡ 0 → ⊥) where
+    pub items-refused : itemsRefusal items ≡ itemRefusal item
+    unfolding itemsRefusal first
+    items-refused = rw (e, ne-eqb (itemRefusal item) 0 n)
 
-pub items-more : (items others : List (List ℕ)) (item : List ℕ) → items ≡ item ∷ others → itemRefusal item ≡ 0
-    → itemsRefusal items ≡ itemsRefusal others
-unfolding itemsRefusal first
-items-more items others item e n = rw (e, eq-eqb (itemRefusal item) 0 n)
+    pub codes-none : leadingCodes items ≡ []
+    unfolding leadingCodes
+    codes-none = rw (e, ne-eqb (itemRefusal item) 0 n)
+
+  -- its first item is read
+  module _ (z : itemRefusal item ≡ 0) where
+    pub items-more : itemsRefusal items ≡ itemsRefusal others
+    unfolding itemsRefusal first
+    items-more = rw (e, eq-eqb (itemRefusal item) 0 z)
+
+    pub codes-more : leadingCodes items ≡ itemCode item ∷ leadingCodes others
+    unfolding leadingCodes
+    codes-more = rw (e, eq-eqb (itemRefusal item) 0 z)
 
 pub items-none : itemsRefusal [] ≡ 0
 unfolding itemsRefusal
 items-none = refl
 
-pub codes-more : (items others : List (List ℕ)) (item : List ℕ) → items ≡ item ∷ others → itemCodes items
-    ≡ itemCode item ∷ itemCodes others
-unfolding itemCodes
-codes-more items others item e = rw e
+-- where no item is refused, all codes are kept
+pub codes-all : (items : List (List ℕ)) → itemsRefusal items ≡ 0 → leadingCodes items ≡ itemCodes items
+unfolding itemsRefusal leadingCodes itemCodes
+codes-all [] z = refl
+codes-all (item ∷ items) z =
+    let n = first-none (itemRefusal item) (itemsRefusal items) z in
+    rw (eq-eqb (itemRefusal item) 0 (n .0), codes-all items (n .1))
 
 -- one code more, kept behind n others
 module _ (all : List ℕ) (n code : ℕ) (others : List ℕ) (e : drop n all ≡ code ∷ others) (room : n < 4097) where
@@ -126,61 +141,72 @@ module _ (all : List ℕ) (n code : ℕ) (others : List ℕ) (e : drop n all ≡
 
 -- the state of the loop: n codes are kept, and the text from i on has the other items
 abbrev pub Reading : List ℕ → List ℕ → ℕ → ℕ → Type 0
-Reading t bytes n i =
-    (i ≤ length t) × (n ≤ i) × (length t ≤ 4096) × (itemsRefusal (parts 44 t) ≡ itemsRefusal (parts 44 (drop i t)))
-    × (drop n (itemCodes (parts 44 t)) ≡ itemCodes (parts 44 (drop i t))) × Wrote (zeros 4097) 0 (take n (itemCodes (parts 44 t))) bytes n
+Reading t codes n i =
+    (i ≤ length t) × (n ≤ i) × (length t ≤ 4096) × (itemsRefusal (parts comma t) ≡ itemsRefusal (parts comma (drop i t)))
+    × (drop n (leadingCodes (parts comma t)) ≡ leadingCodes (parts comma (drop i t)))
+    × Wrote (zeros 4097) 0 (take n (leadingCodes (parts comma t))) codes n
 
 -- after a turn, which kept one code more: the other items are still to be read, and none where that was the last
-pub record Turned (t : List ℕ) (others : List (List ℕ)) (n r : ℕ) (bytes : List ℕ) : Type 0 where
-  pub refusal : itemsRefusal (parts 44 t) ≡ itemsRefusal others
+pub record Turned (t : List ℕ) (others : List (List ℕ)) (n r : ℕ) (codes : List ℕ) : Type 0 where
+  pub refusal : itemsRefusal (parts comma t) ≡ itemsRefusal others
   pub next : r ≡ n + 1
-  pub rest : drop r (itemCodes (parts 44 t)) ≡ itemCodes others
-  pub wrote : Wrote (zeros 4097) 0 (take r (itemCodes (parts 44 t))) bytes r
+  pub rest : drop r (leadingCodes (parts comma t)) ≡ leadingCodes others
+  pub wrote : Wrote (zeros 4097) 0 (take r (leadingCodes (parts comma t))) codes r
 
-module _ (t bytes : List ℕ) (n i : ℕ) (inv : Reading t bytes n i) (item : List ℕ) (others : List (List ℕ))
-    (e : parts 44 (drop i t) ≡ item ∷ others) (found : Item) (ef : found ≡ itemAt (columnIn item) (rowIn item))
+module _ (t codes : List ℕ) (n i : ℕ) (inv : Reading t codes n i) (item : List ℕ) (others : List (List ℕ))
+    (e : parts comma (drop i t) ≡ item ∷ others) (found : Item) (ef : found ≡ itemAt (columnIn item) (rowIn item))
     (good : found .refused ≡ 0) (r : ℕ)
-    (bytes′ : List ℕ) (kept : (r ≡ keptTo bytes n true (found .code ∷ [])) × (bytes′ ≡ keptIn bytes n true (found .code ∷ []))) where
+    (codes′ : List ℕ) (kept : (r ≡ keptTo codes n true (found .code ∷ [])) × (codes′ ≡ keptIn codes n true (found .code ∷ []))) where
   abbrev all : List ℕ
-  all = itemCodes (parts 44 t)
+  all = leadingCodes (parts comma t)
 
-  rest : drop n all ≡ found .code ∷ itemCodes others
+  reads : itemRefusal item ≡ 0
+  reads = sym (item-refusal item found ef) ∙ good
+
+  rest : drop n all ≡ found .code ∷ leadingCodes others
   rest =
-      inv .4 ∙ codes-more (parts 44 (drop i t)) others item e ∙ ap (λ (k : ℕ). k ∷ itemCodes others) (sym (item-code item found ef good))
+      inv .4 ∙ codes-more (parts comma (drop i t)) others item e reads
+      ∙ ap (λ (k : ℕ). k ∷ leadingCodes others) (sym (item-code item found ef good))
 
-  kept-code : (r ≡ n + 1) × Wrote (zeros 4097) 0 (take (n + 1) all) bytes′ (n + 1)
-  kept-code = keep-code all n (found .code) (itemCodes others) rest (omega (arith, inv .0, inv .1, inv .2)) bytes (inv .5) r bytes′ kept
+  kept-code : (r ≡ n + 1) × Wrote (zeros 4097) 0 (take (n + 1) all) codes′ (n + 1)
+  kept-code = keep-code all n (found .code) (leadingCodes others) rest (omega (arith, inv .0, inv .1, inv .2)) codes (inv .5) r codes′ kept
 
-  pub turned : Turned t others n r bytes′
+  pub turned : Turned t others n r codes′
   turned =
       record {
-        refusal = inv .3 ∙ items-more (parts 44 (drop i t)) others item e (sym (item-refusal item found ef) ∙ good);
+        refusal = inv .3 ∙ items-more (parts comma (drop i t)) others item e reads;
         next = kept-code .0;
-        rest = ap (λ (k : ℕ). drop k all) (kept-code .0) ∙ next-rest 0 all n (found .code) (itemCodes others) rest;
-        wrote = subst (λ (k : ℕ). Wrote (zeros 4097) 0 (take k all) bytes′ k) (sym (kept-code .0)) (kept-code .1);
+        rest = ap (λ (k : ℕ). drop k all) (kept-code .0) ∙ next-rest 0 all n (found .code) (leadingCodes others) rest;
+        wrote = subst (λ (k : ℕ). Wrote (zeros 4097) 0 (take k all) codes′ k) (sym (kept-code .0)) (kept-code .1);
       }
 
--- behind the last item all codes are kept
-pub turned-all : (t : List ℕ) (n r : ℕ) (bytes : List ℕ) → Turned t [] n r bytes → Wrote (zeros 4097) 0 (itemCodes (parts 44 t)) bytes r
-unfolding itemCodes
-turned-all t n r bytes h =
-    wrote-as (h .wrote) (take-all r (itemCodes (parts 44 t)) (next-none 0 (itemCodes (parts 44 t)) r (h .rest)))
+-- ---- what is given back: the codes are written where no others are left, behind the last item or before a refused one
+module _ (s t : List ℕ) (e : t ≡ trim s) (codes : List ℕ) (n : ℕ) (left : drop n (leadingCodes (parts comma t)) ≡ [])
+    (w : Wrote (zeros 4097) 0 (take n (leadingCodes (parts comma t))) codes n) (room : n ≤ 4097) where
+  all-kept : take n (leadingCodes (parts comma t)) ≡ leadingIn s
+  unfolding leadingIn
+  all-kept =
+      take-all n (leadingCodes (parts comma t)) (next-none 0 (leadingCodes (parts comma t)) n left)
+      ∙ ap (λ (l : List ℕ). leadingCodes (parts comma l)) e
 
--- ---- what is given back
-pub codes-refused : (s : List ℕ) (r : Codes) (k : ℕ) → r ≡ noCodes k → (k ≡ 0 → ⊥) → k ≡ pointsRefusal s → Collected s r
-unfolding noCodes
-codes-refused s r k e n p =
-    subst (Collected s) (sym e)
-    (record {
-      refusal = p;
-      held = rw (ne-eqb (pointsRefusal s) 0 (λ z. n (p ∙ z)))
-          (wrote-held 4097 [] (zeros 4097) 0 (wrote-none (zeros 4097) 0) (omega arith));
-    })
+  wrote : Wrote (zeros 4097) 0 (leadingIn s) codes n
+  wrote = wrote-as w all-kept
 
-pub codes-given : (s bytes : List ℕ) (n : ℕ) → pointsRefusal s ≡ 0 → Wrote (zeros 4097) 0 (pointsIn s) bytes n → n ≤ 4097
-    → Collected s (record { refused = 0; bytes = bytes; len = n })
-codes-given s bytes n z w h =
-    record {
-      refusal = sym z;
-      held = rw (eq-eqb (pointsRefusal s) 0 z) (wrote-held 4097 (pointsIn s) bytes n w (omega (arith, w .place)));
-    }
+  pub list-found : (refused item : ℕ) → refused ≡ pointsRefusal s → item ≡ slipIn s
+      → _≡_ {A = Leading} (record { refused = refused; item = item; codes = codes; len = n }) (listFound s)
+  unfolding listFound leadingAnswer
+  list-found refused item er ei =
+      let p = wrote .place in
+      let h = wrote-held 4097 (leadingIn s) codes n wrote (omega arith) in
+      rw (er, ei, h .buffer, h .count)
+
+  -- the number of the refused item is one more than the codes that are kept
+  pub slip-at : (refused : ℕ) → refused ≡ pointsRefusal s → (refused ≡ 0 → ⊥) → n + 1 ≡ slipIn s
+  unfolding slipIn slipNumber pointsRefusal leadingIn
+  slip-at refused er z =
+      let p = wrote .place in
+      rw (ne-eqb (pointsRefusal s) 0 (λ y. z (er ∙ y))) (omega arith)
+
+pub slip-none : (s : List ℕ) → pointsRefusal s ≡ 0 → 0 ≡ slipIn s
+unfolding slipIn slipNumber pointsRefusal
+slip-none s z = rw (eq-eqb (pointsRefusal s) 0 z)

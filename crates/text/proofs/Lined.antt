@@ -1,199 +1,262 @@
--- Laws of a diagram, as the code reads it: one line a turn. Assumes nothing.
+-- Laws of a diagram, as the code reads it: one cell a turn, and one line a turn. Assumes nothing.
 use mathlib.Core.Path.{_≡_, refl, ap, sym, _∙_}
 use mathlib.Core.Bool.{Bool, true, false, _&&_, cond}
 use mathlib.Core.Logic.{_⊎_, inl, inr}
-use mathlib.Core.List.{List, []}
+use mathlib.Core.List.{List, [], _∷_}
 use Prim.Native.Nat.{ℕ, _+_, _-_, _≤_, _<_}
 use native.Mathlib.Omega.{arith}
 use lib.Dec.{T, leb, ltb, eqb, le→leb, eqb→eq}
-use lib.ListN.{length, getD, set, length-set}
+use lib.ListN.{length, getD, drop, set, length-set, length-drop, List·getD-eq-default}
 use lib.Seq.{getD-set-same, getD-set-other}
-use borrow.Author.Tests.{eq-eqb, eqb-true, eqb-false, lt-ltb, ltb-true}
+use borrow.Author.Tests.{eq-eqb, ne-eqb, eqb-true, eqb-false, lt-ltb, le-ltb, ltb-true, ltb-false, lt-leb}
 use Rattle.rules.specs.Refusals.{first, unless}
 use Rattle.rules.specs.Tools.{allBelow, tab}
-use Rattle.rules.specs.Bit.{bit}
-use Rattle.rules.specs.Point.{xOf, yOf}
-use Rattle.rules.specs.Grid.{valueOf}
-use Rattle.rules.proofs.Logic.{all-intro, all-more, all-step, all-fails, and-intro, and-flip, true-T, T-true, decide}
-use Rattle.rules.proofs.Bits.{bit-mask}
-use Rattle.rules.proofs.Lists.{length-tab, getD-tab, tab-cong}
-use Rattle.rules.proofs.Refusals.{pass, passed, given, first-none}
+use Rattle.rules.specs.Point.{xOf, yOf, codeOf}
+use Rattle.rules.proofs.Logic.{all-more, all-step, all-fails, and-flip, T-true, decide}
+use Rattle.rules.proofs.Lists.{length-tab, getD-tab, tab-cong, is-tab}
+use Rattle.rules.proofs.Refusals.{passed, given, first-none}
 use Rattle.lent.specs.Lists.{zeros}
-use Rattle.lent.proofs.Laws.{length-zeros}
-use Rattle.line.specs.declared.line.Line.{Line}
-use Rattle.board.specs.Answers.{boardAnswer}
-use Rattle.board.specs.Boards.{cellsRefusal, boardOf}
+use Rattle.lent.proofs.Laws.{length-zeros, zeros-at}
+use Rattle.cells.specs.Answers.{cellsAnswer}
+use Rattle.cells.specs.declared.answer.CellsAnswer.{CellsAnswer}
 use Rattle.text.specs.Bytes.{dense}
-use Rattle.text.specs.Lines.{marked, lengthRefusal, lineIn, lineFound}
-use Rattle.text.specs.Rows.{rowPut, rowsCells}
-use Rattle.text.specs.Reading.{sizeAt, countRefusal, diagramRefusal, diagramCells, letterCell}
-use Rattle.text.specs.declared.line_text.Found.{Found}
-use Rattle.text.proofs.Marks.{row-refusal, row-line}
+use Rattle.text.specs.Rows.{letterPut, rowPut}
+use Rattle.text.specs.Reading.{letterCell, sizeAt, countRefusal, diagramRefusal, diagramCells}
+use Rattle.text.proofs.Marks.{next-is, next-rest, next-none}
 
--- ---- cells of 0, 1 and 2
-value-small : (black white : Bool) → valueOf black white ≤ 2
-value-small true white = omega arith
-value-small false true = omega arith
-value-small false false = omega arith
+-- ---- the cells of line k put, one a turn
+pub row-step : (k x : ℕ) (l line : List ℕ) (b : ℕ) (cells cells′ : List ℕ) → l ≡ b ∷ line → cells′ ≡ letterPut k x b cells
+    → rowPut k x l cells ≡ rowPut k (x + 1) line cells′
+unfolding rowPut
+row-step k x l line b cells cells′ e p = rw (e, p)
 
-pub tab-good : (f : ℕ → ℕ) → ((p : ℕ) → f p ≤ 2) → cellsRefusal (tab 225 f) ≡ 0
-unfolding cellsRefusal
-tab-good f h =
-    pass (eqb (length (tab 225 f)) 225 && allBelow 225 (λ p. leb (getD (tab 225 f) p 0) 2)) 9
-    (and-intro (eqb (length (tab 225 f)) 225) (allBelow 225 (λ p. leb (getD (tab 225 f) p 0) 2))
-    (true-T (eq-eqb (length (tab 225 f)) 225 (length-tab 225 f)))
-    (all-intro 225 (λ p. leb (getD (tab 225 f) p 0) 2)
-    (λ p l. le→leb (getD (tab 225 f) p 0) 2 (let e = getD-tab 225 f p l in let k = h p in omega arith))))
+pub row-end : (k x : ℕ) (l cells : List ℕ) → l ≡ [] → rowPut k x l cells ≡ cells
+unfolding rowPut
+row-end k x l cells e = rw e
 
-pub rows-good : (rows : List ℕ) → cellsRefusal (rowsCells rows) ≡ 0
-unfolding rowsCells
-rows-good rows =
-    tab-good _ (λ p. value-small (bit (getD rows (14 - yOf p) 0) (xOf p)) (bit (getD rows (15 + (14 - yOf p)) 0) (xOf p)))
+-- ---- the first x cells of line k stand on its row
+abbrev onRow : ℕ → ℕ → Bool
+onRow k p = eqb (yOf p + k) 14
 
--- the masks of a line say what its letters say
-value-said : (l : List ℕ) (x : ℕ) → x < 15 → valueOf (bit (marked 111 l) x) (bit (marked 120 l) x) ≡ letterCell (getD (dense l) x 0)
-unfolding letterCell marked
-value-said l x h =
-    rw (bit-mask 16 (λ i. eqb (getD (dense l) i 0) 111) x (omega arith), bit-mask 16 (λ i. eqb (getD (dense l) i 0) 120) x (omega arith))
+rowCell : ℕ → ℕ → List ℕ → List ℕ → ℕ → ℕ
+rowCell k x line cells p = cond (onRow k p && ltb (xOf p) x) (letterCell (getD line (xOf p) 0)) (getD cells p 0)
 
--- ---- the first k lines of a diagram are read: none is too long, `full` says whether all have 15 cells, and the masks of 15 are kept
-pub record Lined (lines : List (List ℕ)) (rows : List ℕ) (full : Bool) (k : ℕ) : Type 0 where
+pub rowTo : ℕ → ℕ → List ℕ → List ℕ → List ℕ
+rowTo k x line cells = tab 225 (rowCell k x line cells)
+
+module _ (k : ℕ) (line cells : List ℕ) where
+  none-on : (p : ℕ) → rowCell k 0 line cells p ≡ getD cells p 0
+  unfolding rowCell
+  none-on p = go (onRow k p) (ltb (xOf p) 0) (le-ltb (xOf p) 0 (omega arith))
+    where
+      go : (a b : Bool) → b ≡ false → cond (a && b) (letterCell (getD line (xOf p) 0)) (getD cells p 0) ≡ getD cells p 0
+      go true b e = rw e
+      go false b e = refl
+
+  row-none : length cells ≡ 225 → cells ≡ rowTo k 0 line cells
+  unfolding rowTo
+  row-none e = is-tab cells 225 (rowCell k 0 line cells) e (λ p h. sym (none-on p))
+
+  module _ (x : ℕ) where
+    -- a cell that is not cell x of line k stays
+    row-same : (p : ℕ) → (onRow k p ≡ true → xOf p ≡ x → ⊥) → rowCell k x line cells p ≡ rowCell k (x + 1) line cells p
+    unfolding rowCell
+    row-same p n = go (decide (onRow k p)) (decide (ltb (xOf p) x))
+      where
+        go : (onRow k p ≡ true) ⊎ (onRow k p ≡ false) → (ltb (xOf p) x ≡ true) ⊎ (ltb (xOf p) x ≡ false)
+            → cond (onRow k p && ltb (xOf p) x) (letterCell (getD line (xOf p) 0)) (getD cells p 0)
+            ≡ cond (onRow k p && ltb (xOf p) (x + 1)) (letterCell (getD line (xOf p) 0)) (getD cells p 0)
+        go (inr t) u = rw t
+        go (inl t) (inl u) = let l = ltb-true (xOf p) x u in rw (t, u, lt-ltb (xOf p) (x + 1) (omega arith))
+        go (inl t) (inr u) =
+            let l = ltb-false (xOf p) x u in
+            rw (t, u, le-ltb (xOf p) (x + 1) (omega (arith, n t)))
+
+    module _ (b : ℕ) (e : getD line x 0 ≡ b) where
+      abbrev put : List ℕ
+      put = letterPut k x b (rowTo k x line cells)
+
+      put-long : length put ≡ 225
+      unfolding letterPut rowTo
+      put-long = go (ltb k 15 && ltb x 15)
+        where
+          go : (t : Bool) → length (cond t (set (rowTo k x line cells) (codeOf x (14 - k)) (letterCell b)) (rowTo k x line cells)) ≡ 225
+          go true = length-set (rowTo k x line cells) (codeOf x (14 - k)) (letterCell b) ∙ length-tab 225 (rowCell k x line cells)
+          go false = length-tab 225 (rowCell k x line cells)
+
+      -- the cell itself
+      put-here : (p : ℕ) → k < 15 → p ≡ codeOf x (14 - k) → letterCell b ≡ rowCell k (x + 1) line cells p
+      unfolding rowCell
+      put-here p l w =
+          let y : yOf p + k ≡ 14 = omega arith in
+          let z : xOf p ≡ x = omega arith in
+          rw (eq-eqb (yOf p + k) 14 y, lt-ltb (xOf p) (x + 1) (omega arith), z, e)
+
+      put-at : (p : ℕ) → p < 225 → getD put p 0 ≡ rowCell k (x + 1) line cells p
+      unfolding letterPut rowTo
+      put-at p h = go (decide (ltb k 15)) (decide (ltb x 15)) (decide (eqb p (codeOf x (14 - k))))
+        where
+          was : getD (tab 225 (rowCell k x line cells)) p 0 ≡ rowCell k x line cells p
+          was = getD-tab 225 (rowCell k x line cells) p h
+
+          go : (ltb k 15 ≡ true) ⊎ (ltb k 15 ≡ false) → (ltb x 15 ≡ true) ⊎ (ltb x 15 ≡ false)
+              → (eqb p (codeOf x (14 - k)) ≡ true) ⊎ (eqb p (codeOf x (14 - k)) ≡ false)
+              → getD (cond (ltb k 15 && ltb x 15) (set (tab 225 (rowCell k x line cells)) (codeOf x (14 - k)) (letterCell b))
+              (tab 225 (rowCell k x line cells))) p 0
+              ≡ rowCell k (x + 1) line cells p
+          go (inr t) u v =
+              let l = ltb-false k 15 t in
+              rw t (was ∙ row-same p (λ on w. let y = eqb-true (yOf p + k) 14 on in omega arith))
+          go (inl t) (inr u) v =
+              let l = ltb-false x 15 u in
+              rw (t, u) (was ∙ row-same p (λ on w. omega arith))
+          go (inl t) (inl u) (inl v) =
+              let l = ltb-true k 15 t in
+              let m = ltb-true x 15 u in
+              let w = eqb-true p (codeOf x (14 - k)) v in
+              let n = length-tab 225 (rowCell k x line cells) in
+              rw (t, u) (ap (λ (q : ℕ). getD (set (tab 225 (rowCell k x line cells)) (codeOf x (14 - k)) (letterCell b)) q 0) w
+              ∙ getD-set-same (tab 225 (rowCell k x line cells)) (codeOf x (14 - k)) (letterCell b) 0 (omega arith) ∙ put-here p l w)
+          go (inl t) (inl u) (inr v) =
+              let l = ltb-true k 15 t in
+              let w = eqb-false p (codeOf x (14 - k)) v in
+              rw (t, u) (getD-set-other (tab 225 (rowCell k x line cells)) (codeOf x (14 - k)) p (letterCell b) 0 w ∙ was
+              ∙ row-same p (λ on z. let y = eqb-true (yOf p + k) 14 on in w (omega arith)))
+
+      row-more : put ≡ rowTo k (x + 1) line cells
+      unfolding rowTo
+      row-more = is-tab put 225 (rowCell k (x + 1) line cells) put-long put-at
+
+  -- all cells of the line
+  row-all : (x : ℕ) (rest : List ℕ) → x ≤ length line → drop x line ≡ rest
+      → rowPut k x rest (rowTo k x line cells) ≡ rowTo k (length line) line cells
+  unfolding rowPut
+  row-all x [] h e =
+      let n = next-none 0 line x e in
+      let z : x ≡ length line = omega arith in
+      ap (λ (n : ℕ). rowTo k n line cells) z
+  row-all x (b ∷ rest) h e =
+      let n = ap length e in
+      ap (rowPut k (x + 1) rest) (row-more x b (next-is 0 line x b rest e))
+      ∙ row-all (x + 1) rest (omega (arith, length-drop x line)) (next-rest 0 line x b rest e)
+
+  pub row-put : length cells ≡ 225 → rowPut k 0 line cells ≡ rowTo k (length line) line cells
+  row-put n = ap (rowPut k 0 line) (row-none n) ∙ row-all 0 line (omega arith) refl
+
+-- ---- the cells of the first k lines
+shownCell : List (List ℕ) → ℕ → ℕ
+shownCell lines p = letterCell (getD (dense (getD lines (14 - yOf p) [])) (xOf p) 0)
+
+pub shownTo : ℕ → List (List ℕ) → List ℕ
+shownTo k lines = tab 225 (λ p. cond (ltb (14 - yOf p) k) (shownCell lines p) 0)
+
+shown-none : (lines : List (List ℕ)) → zeros 225 ≡ shownTo 0 lines
+unfolding shownTo
+shown-none lines = is-tab (zeros 225) 225 _ (length-zeros 225) (λ p h. zeros-at 225 p ∙ rw (le-ltb (14 - yOf p) 0 (omega arith)))
+
+shown-all : (lines : List (List ℕ)) → shownTo 15 lines ≡ diagramCells lines
+unfolding shownTo shownCell diagramCells
+shown-all lines = tab-cong 225 _ _ (λ p h. rw (lt-ltb (14 - yOf p) 15 (omega arith)))
+
+-- one line more
+module _ (lines : List (List ℕ)) (k : ℕ) (line : List ℕ) (e : dense (getD lines k []) ≡ line) where
+  -- past its last cell a line shows nothing
+  shown-past : (x : ℕ) → length line ≤ x → letterCell (getD line x 0) ≡ 0
+  unfolding letterCell
+  shown-past x h = rw (List·getD-eq-default line 0 {n = x} h)
+
+  shown-cell : (p : ℕ) → p < 225 → rowCell k (length line) line (shownTo k lines) p ≡ cond (ltb (14 - yOf p) (k + 1)) (shownCell lines p) 0
+  unfolding rowCell shownTo shownCell
+  shown-cell p h =
+      ap (λ (v : ℕ). cond (onRow k p && ltb (xOf p) (length line)) (letterCell (getD line (xOf p) 0)) v)
+      (getD-tab 225 (λ q. cond (ltb (14 - yOf q) k) (shownCell lines q) 0) p h)
+      ∙ go (decide (onRow k p)) (decide (ltb (xOf p) (length line))) (decide (ltb (14 - yOf p) k))
+    where
+      go : (onRow k p ≡ true) ⊎ (onRow k p ≡ false) → (ltb (xOf p) (length line) ≡ true) ⊎ (ltb (xOf p) (length line) ≡ false)
+          → (ltb (14 - yOf p) k ≡ true) ⊎ (ltb (14 - yOf p) k ≡ false)
+          → cond (onRow k p && ltb (xOf p) (length line)) (letterCell (getD line (xOf p) 0)) (cond (ltb (14 - yOf p) k)
+          (letterCell (getD (dense (getD lines (14 - yOf p) [])) (xOf p) 0)) 0)
+          ≡ cond (ltb (14 - yOf p) (k + 1)) (letterCell (getD (dense (getD lines (14 - yOf p) [])) (xOf p) 0)) 0
+      go (inl t) (inl u) v =
+          let y = eqb-true (yOf p + k) 14 t in
+          let z : 14 - yOf p ≡ k = omega arith in
+          rw (t, u, lt-ltb (14 - yOf p) (k + 1) (omega arith), z, e)
+      go (inl t) (inr u) v =
+          let y = eqb-true (yOf p + k) 14 t in
+          let z : 14 - yOf p ≡ k = omega arith in
+          let l = ltb-false (xOf p) (length line) u in
+          rw (t, u, le-ltb (14 - yOf p) k (omega arith), lt-ltb (14 - yOf p) (k + 1) (omega arith), z, e) (sym (shown-past (xOf p) l))
+      go (inr t) u (inl v) =
+          let l = ltb-true (14 - yOf p) k v in
+          rw (t, v, lt-ltb (14 - yOf p) (k + 1) (omega arith))
+      go (inr t) u (inr v) =
+          let l = ltb-false (14 - yOf p) k v in
+          let n = eqb-false (yOf p + k) 14 t in
+          rw (t, v, le-ltb (14 - yOf p) (k + 1) (omega (arith, n)))
+
+  shown-more : rowPut k 0 line (shownTo k lines) ≡ shownTo (k + 1) lines
+  unfolding shownTo rowTo
+  shown-more =
+      row-put k line (shownTo k lines) (length-tab 225 (λ p. cond (ltb (14 - yOf p) k) (shownCell lines p) 0))
+      ∙ tab-cong 225 _ _ shown-cell
+
+-- ---- the first k lines of a diagram are read: none is too long, `full` says whether all have 15 cells, and their cells are put
+pub record Lined (lines : List (List ℕ)) (cells : List ℕ) (full : Bool) (k : ℕ) : Type 0 where
   pub fit : T (allBelow k (λ j. leb (sizeAt lines j) 15))
   pub sizes : full ≡ allBelow k (λ j. eqb (sizeAt lines j) 15)
-  pub room : length rows ≡ 30
-  pub blacks : (j : ℕ) → j < k → j < 15 → getD rows j 0 ≡ marked 111 (getD lines j [])
-  pub whites : (j : ℕ) → j < k → j < 15 → getD rows (15 + j) 0 ≡ marked 120 (getD lines j [])
+  pub said : cells ≡ shownTo k lines
 
-pub lined-none : (lines : List (List ℕ)) → Lined lines (zeros 30) true 0
+pub lined-none : (lines : List (List ℕ)) → Lined lines (zeros 225) true 0
 unfolding allBelow
-lined-none lines =
-    record {
-      fit = tt;
-      sizes = refl;
-      room = length-zeros 30;
-      blacks = λ j h l. absurd (omega arith);
-      whites = λ j h l. absurd
-          (omega arith);
-    }
+lined-none lines = record { fit = tt; sizes = refl; said = shown-none lines }
 
 -- ---- a turn: line k is read
-module _ (lines : List (List ℕ)) (k : ℕ) (part : List ℕ) (e : getD lines k [] ≡ part) (r : Found) (er : r ≡ lineFound part) where
-  at : lengthRefusal part ≡ unless (leb (sizeAt lines k) 15) 5
-  unfolding lengthRefusal sizeAt
-  at = rw (← e)
+module _ (lines : List (List ℕ)) (k : ℕ) (part : List ℕ) (e : getD lines k [] ≡ part) (size : ℕ) (es : size ≡ length (dense part)) where
+  at : size ≡ sizeAt lines k
+  unfolding sizeAt
+  at = es ∙ rw (← e)
 
   -- too long
-  pub lined-long : k < length lines → (r .refused ≡ 0 → ⊥) → r .refused ≡ diagramRefusal lines
+  pub lined-long : k < length lines → 15 < size → 5 ≡ diagramRefusal lines
   unfolding diagramRefusal first unless
   lined-long h n =
-      row-refusal part r er ∙ at ∙ go (decide (leb (sizeAt lines k) 15))
-    where
-      go : (leb (sizeAt lines k) 15 ≡ true) ⊎ (leb (sizeAt lines k) 15 ≡ false)
-          → unless (leb (sizeAt lines k) 15) 5 ≡ diagramRefusal lines
-      go (inl t) = absurd (n (row-refusal part r er ∙ at ∙ rw t))
-      go (inr t) = rw (t, all-fails (length lines) (λ j. leb (sizeAt lines j) 15) k h t)
+      rw (all-fails (length lines) (λ j. leb (sizeAt lines j) 15) k h (lt-leb (sizeAt lines k) 15 (omega (arith, at))))
 
-  module _ (z : r .refused ≡ 0) where
-    fits : T (leb (sizeAt lines k) 15)
-    fits = passed (leb (sizeAt lines k) 15) 4 (sym at ∙ sym (row-refusal part r er) ∙ z)
+  pub lined-more : size ≤ 15 → (cells : List ℕ) (full : Bool) → Lined lines cells full k → (cells′ : List ℕ) (full′ : Bool)
+      → cells′ ≡ rowPut k 0 (dense part) cells → full′ ≡ (full && eqb size 15) → Lined lines cells′ full′ (k + 1)
+  lined-more fits cells full h cells′ full′ p q =
+      record {
+        fit = all-more k (λ j. leb (sizeAt lines j) 15) (h .fit) (le→leb (sizeAt lines k) 15 (omega (arith, at)));
+        sizes =
+            q ∙ rw (h .sizes, at) (and-flip (allBelow k (λ j. eqb (sizeAt lines j) 15)) (eqb (sizeAt lines k) 15))
+            ∙ all-step k (λ j. eqb (sizeAt lines j) 15);
+        said = p ∙ ap (rowPut k 0 (dense part)) (h .said) ∙ shown-more lines k (dense part) (ap dense e);
+      }
 
-    size : r .line .size ≡ sizeAt lines k
-    unfolding lineIn sizeAt
-    size = ap (λ (l : Line). l .size) (row-line part r er z) ∙ rw e
+-- ---- what is given back
 
-    black : r .line .blacks ≡ marked 111 (getD lines k [])
-    unfolding lineIn
-    black = ap (λ (l : Line). l .blacks) (row-line part r er z) ∙ rw e
+-- a refusal is given back alone
+pub refused-as : (n : ℕ) (a b : List ℕ) → (n ≡ 0 → ⊥) → cellsAnswer n a ≡ cellsAnswer n b
+unfolding cellsAnswer
+refused-as n a b h = rw (ne-eqb n 0 h)
 
-    white : r .line .whites ≡ marked 120 (getD lines k [])
-    unfolding lineIn
-    white = ap (λ (l : Line). l .whites) (row-line part r er z) ∙ rw e
-
-    module _ (rows : List ℕ) (full : Bool) (h : Lined lines rows full k) where
-      put-room : length (rowPut rows k (r .line)) ≡ 30
-      unfolding rowPut
-      put-room = go (ltb k 15)
-        where
-          go : (b : Bool) → length (cond b (set (set rows k (r .line .blacks)) (15 + k) (r .line .whites)) rows) ≡ 30
-          go true = length-set (set rows k (r .line .blacks)) (15 + k) (r .line .whites) ∙ length-set rows k (r .line .blacks) ∙ h .room
-          go false = h .room
-
-      -- a mask that was kept stays; those of line k are kept
-      put-other : (j : ℕ) → (k < 15 → j ≡ k → ⊥) → (k < 15 → j ≡ 15 + k → ⊥) → getD (rowPut rows k (r .line)) j 0 ≡ getD rows j 0
-      unfolding rowPut
-      put-other j p q = go (decide (ltb k 15))
-        where
-          go : (ltb k 15 ≡ true) ⊎ (ltb k 15 ≡ false)
-              → getD (cond (ltb k 15) (set (set rows k (r .line .blacks)) (15 + k) (r .line .whites)) rows) j 0 ≡ getD rows j 0
-          go (inl t) =
-              let l = ltb-true k 15 t in
-              rw t (getD-set-other (set rows k (r .line .blacks)) (15 + k) j (r .line .whites) 0 (q l)
-              ∙ getD-set-other rows k j (r .line .blacks) 0 (p l))
-          go (inr t) = rw t
-
-      put-black : k < 15 → getD (rowPut rows k (r .line)) k 0 ≡ r .line .blacks
-      unfolding rowPut
-      put-black l =
-          let n = h .room in
-          rw (lt-ltb k 15 l) (getD-set-other (set rows k (r .line .blacks)) (15 + k) k (r .line .whites) 0 (λ w. omega arith)
-          ∙ getD-set-same rows k (r .line .blacks) 0 (omega arith))
-
-      put-white : k < 15 → getD (rowPut rows k (r .line)) (15 + k) 0 ≡ r .line .whites
-      unfolding rowPut
-      put-white l =
-          let n = length-set rows k (r .line .blacks) ∙ h .room in
-          rw (lt-ltb k 15 l) (getD-set-same (set rows k (r .line .blacks)) (15 + k) (r .line .whites) 0 (omega arith))
-
-      all-black : (j : ℕ) → j < k + 1 → j < 15 → getD (rowPut rows k (r .line)) j 0 ≡ marked 111 (getD lines j [])
-      all-black j a b = go (decide (eqb j k))
-        where
-          go : (eqb j k ≡ true) ⊎ (eqb j k ≡ false) → getD (rowPut rows k (r .line)) j 0 ≡ marked 111 (getD lines j [])
-          go (inl t) = let w : j ≡ k = eqb-true j k t in rw w (put-black (omega arith) ∙ black)
-          go (inr t) =
-              let w = eqb-false j k t in
-              put-other j (λ _ v. w v) (λ _ v. omega arith) ∙ h .blacks j (omega arith) b
-
-      all-white : (j : ℕ) → j < k + 1 → j < 15 → getD (rowPut rows k (r .line)) (15 + j) 0 ≡ marked 120 (getD lines j [])
-      all-white j a b = go (decide (eqb j k))
-        where
-          go : (eqb j k ≡ true) ⊎ (eqb j k ≡ false) → getD (rowPut rows k (r .line)) (15 + j) 0 ≡ marked 120 (getD lines j [])
-          go (inl t) = let w : j ≡ k = eqb-true j k t in rw w (put-white (omega arith) ∙ white)
-          go (inr t) =
-              let w = eqb-false j k t in
-              put-other (15 + j) (λ l v. omega arith) (λ _ v. w (omega arith)) ∙ h .whites j (omega arith) b
-
-      pub lined-more : (rows′ : List ℕ) (full′ : Bool) → rows′ ≡ rowPut rows k (r .line) → full′ ≡ (full && eqb (r .line .size) 15)
-          → Lined lines rows′ full′ (k + 1)
-      lined-more rows′ full′ p q =
-          record {
-            fit = all-more k (λ j. leb (sizeAt lines j) 15) (h .fit) fits;
-            sizes =
-                q ∙ rw (h .sizes, size) (and-flip (allBelow k (λ j. eqb (sizeAt lines j) 15)) (eqb (sizeAt lines k) 15))
-                ∙ all-step k (λ j. eqb (sizeAt lines j) 15);
-            room = ap length p ∙ put-room;
-            blacks = λ j a b. ap (λ (l : List ℕ). getD l j 0) p ∙ all-black j a b;
-            whites = λ j a b. ap (λ (l : List ℕ). getD l (15 + j) 0) p ∙ all-white j a b;
-          }
-
--- ---- behind the last line
-cells-given : (a b : ℕ) (c d : List ℕ) → a ≡ b → (a ≡ 0 → c ≡ d) → boardAnswer a c ≡ boardAnswer b d
-unfolding boardAnswer
+pub cells-given : (a b : ℕ) (c d : List ℕ) → a ≡ b → (a ≡ 0 → c ≡ d) → cellsAnswer a c ≡ cellsAnswer b d
+unfolding cellsAnswer
 cells-given a b c d e h =
-    given (λ (l : List ℕ). record { refused = 0; board = boardOf l }) (record { refused = a; board = boardOf (zeros 225) }) a c d h
-    ∙ ap (λ (n : ℕ). boardAnswer n d) e
+    given {B = CellsAnswer} (λ (l : List ℕ). record { refused = 0; cells = l }) (record { refused = a; cells = zeros 225 }) a c d h
+    ∙ ap (λ (n : ℕ). cellsAnswer n d) e
 
-module _ (lines : List (List ℕ)) (rows : List ℕ) (full : Bool) (k : ℕ) (h : Lined lines rows full k) (n : length lines ≡ k) where
+-- behind the last line
+module _ (lines : List (List ℕ)) (cells : List ℕ) (full : Bool) (k : ℕ) (h : Lined lines cells full k) (n : length lines ≡ k) where
   end-said : countRefusal k full ≡ diagramRefusal lines
   unfolding countRefusal diagramRefusal first unless
   end-said = rw (n, T-true {b = allBelow k (λ j. leb (sizeAt lines j) 15)} (h .fit), ← h .sizes)
 
-  cells-said : countRefusal k full ≡ 0 → rowsCells rows ≡ diagramCells lines
-  unfolding countRefusal rowsCells diagramCells
+  cells-said : countRefusal k full ≡ 0 → cells ≡ diagramCells lines
+  unfolding countRefusal
   cells-said z =
       let f : k ≡ 15 = eqb→eq k 15 (passed (eqb k 15) 5 (first-none (unless (eqb k 15) 6) (unless full 7) z .0)) in
-      tab-cong 225 _ _
-      (λ p l. rw (h .blacks (14 - yOf p) (omega arith) (omega arith), h .whites (14 - yOf p) (omega arith) (omega arith))
-      (value-said (getD lines (14 - yOf p) []) (xOf p) (omega arith)))
+      h .said ∙ ap (λ (j : ℕ). shownTo j lines) f ∙ shown-all lines
 
-  pub lined-done : boardAnswer (countRefusal k full) (rowsCells rows) ≡ boardAnswer (diagramRefusal lines) (diagramCells lines)
-  lined-done = cells-given (countRefusal k full) (diagramRefusal lines) (rowsCells rows) (diagramCells lines) end-said cells-said
+  pub lined-done : cellsAnswer (countRefusal k full) cells ≡ cellsAnswer (diagramRefusal lines) (diagramCells lines)
+  lined-done = cells-given (countRefusal k full) (diagramRefusal lines) cells (diagramCells lines) end-said cells-said

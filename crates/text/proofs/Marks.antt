@@ -18,7 +18,7 @@ use Rattle.rules.proofs.Bits.{bit-mask, mask-cong, mask-none}
 use Rattle.masks.specs.Masks.{placed}
 use Rattle.line.specs.Answers.{lineAnswer}
 use Rattle.line.specs.declared.answer.LineAnswer.the-variants as line
-use Rattle.text.specs.Bytes.{space, dense, textRefusal}
+use Rattle.text.specs.Bytes.{smallO, smallX, space, dense, textRefusal}
 use Rattle.text.specs.Lines.{marked, lineIn, lineFound, longLine, lengthRefusal, lineTextRefusal}
 use Rattle.text.specs.declared.line_text.Found.{Found}
 
@@ -94,14 +94,19 @@ marked-all s x d h p =
 
 -- ---- the row that is given back
 pub row-said : (s : List ℕ) (x blacks whites : ℕ) → x ≤ 15 → x ≤ length (dense s) → [] ≡ drop x (dense s) → blacks ≡ markedTo x
-    (dense s) 111
-    → whites ≡ markedTo x (dense s) 120 → _≡_ {A = Found} (record
+    (dense s) smallO
+    → whites ≡ markedTo x (dense s) smallX → _≡_ {A = Found} (record
     { refused = 0; line = record { blacks = blacks; whites = whites; size = x } }) (lineFound s)
 unfolding lineFound lineIn
 row-said s x blacks whites h k e eb ew =
     let n = next-none 0 (dense s) x (sym e) in
     let z : x ≡ length (dense s) = omega arith in
-    rw (eb ∙ marked-all s x 111 n (omega arith), ew ∙ marked-all s x 120 n (omega arith), le-leb (length (dense s)) 15 (omega arith), z)
+    rw (
+      eb ∙ marked-all s x smallO n (omega arith),
+      ew ∙ marked-all s x smallX n (omega arith),
+      le-leb (length (dense s)) 15 (omega arith),
+      z,
+    )
 
 pub row-long : (s : List ℕ) → 15 < length (dense s) → longLine ≡ lineFound s
 unfolding lineFound

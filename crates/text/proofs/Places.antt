@@ -1,30 +1,16 @@
--- Laws of places in a text: the first byte of a sort, a text trimmed, the parts between a byte. Assumes nothing.
+-- Laws of places in a text: a text trimmed, a byte in it, the parts between a byte. Assumes nothing.
 use mathlib.Core.Path.{_≡_, refl, ap, sym, _∙_}
 use mathlib.Core.Bool.{Bool, true, false, not, _||_, cond}
 use mathlib.Core.List.{List, [], _∷_, _++_}
 use Prim.Native.Nat.{ℕ, zero, suc, _+_, _≤_, _<_, _-_}
 use native.Mathlib.Nat.{le-of-suc-le-suc, not-suc-le-zero}
-use native.Mathlib.Numerals.{add-one}
 use native.Mathlib.Omega.{arith}
 use lib.Dec.{eqb}
-use lib.ListN.{length, getD, take, drop, drop-of-length-le, length-drop, length-take}
-use lib.Seq.{drop-cons, drop-drop, take-suc, length-take-le}
-use Rattle.text.specs.Bytes.{space, trimStart, trimEnd, keepEnd, trim, has, before, behind, parts, ontoFirst, firstAt, findAt}
+use lib.ListN.{length, getD, take, drop, length-drop, length-take}
+use lib.Seq.{drop-drop, take-suc, length-take-le}
+use Rattle.lent.specs.Slices.{firstAt, findAt}
+use Rattle.text.specs.Bytes.{space, trimStart, trimEnd, keepEnd, trim, has, before, behind, parts, ontoFirst}
 use Rattle.text.specs.Bytes.{leading}
-
--- ---- the first byte that passes a test, as a loop looks for it
-pub first-hit : (f : ℕ → Bool) (s : List ℕ) (i : ℕ) → i < length s → f (getD s i 0) ≡ true → i + firstAt f (drop i s) ≡ i
-unfolding firstAt
-first-hit f s i h e = rw (drop-cons s i 0 h) (rw e (omega arith))
-
-pub first-step : (f : ℕ → Bool) (s : List ℕ) (i : ℕ) → i < length s → f (getD s i 0) ≡ false
-    → i + firstAt f (drop i s) ≡ (i + 1) + firstAt f (drop (i + 1) s)
-unfolding firstAt
-first-step f s i h e = rw (add-one, drop-cons s i 0 h) (rw e (omega arith))
-
-pub first-end : (f : ℕ → Bool) (s : List ℕ) (i : ℕ) → length s ≤ i → i + firstAt f (drop i s) ≡ i
-unfolding firstAt
-first-end f s i h = rw (drop-of-length-le s h) (omega arith)
 
 -- ---- trimming
 pub trim-start : (s : List ℕ) → trimStart s ≡ drop (leading s) s

@@ -1,33 +1,31 @@
--- Laws of the boards that are given back: a refusal with the empty board, or the board that the codes of a list make. Assumes nothing.
+-- Laws of the cells that are given back: a refusal alone, or the cells that the codes of a list make. Assumes nothing.
 use mathlib.Core.Path.{_≡_, ap, ap₂, sym, _∙_}
-use mathlib.Core.Bool.{_&&_}
+use mathlib.Core.Bool.{true, false, _&&_}
+use mathlib.Core.Logic.{_⊎_, inl, inr}
 use mathlib.Core.List.{List, [], _∷_}
 use Prim.Native.Nat.{ℕ, zero, suc, _<_, _≤_}
 use native.Mathlib.Nat.{le-of-suc-le-suc}
 use native.Mathlib.Omega.{arith}
-use lib.Dec.{leb, ltb, leb→le, ltb→lt, lt→ltb}
+use lib.Dec.{eqb, leb, ltb, leb→le, ltb→lt, lt→ltb}
 use lib.ListN.{length, getD, take}
 use borrow.Author.Tests.{eq-eqb, ne-eqb}
 use Rattle.rules.specs.Refusals.{first, unless}
 use Rattle.rules.proofs.Refusals.{first-none, passed, pass}
-use Rattle.rules.proofs.Logic.{and-left, and-right, all-intro}
-use Rattle.lent.specs.Lists.{Held}
-use Rattle.lent.proofs.Laws.{held-take, held-as}
-use Rattle.board.specs.Answers.{boardAnswer}
-use Rattle.board.specs.Boards.{codesRefusal, stonesCells}
-use Rattle.text.specs.Bytes.{trim, parts, findAt, textRefusal}
+use Rattle.rules.proofs.Logic.{decide, and-left, and-right, all-intro}
+use Rattle.lent.specs.Lists.{Held, padded}
+use Rattle.lent.proofs.Laws.{held-take}
+use Rattle.cells.specs.Answers.{cellsAnswer}
+use Rattle.cells.specs.Cells.{codesRefusal, stonesCells}
+use Rattle.text.specs.Bytes.{newline, comma, slash, trim, has, parts, textRefusal}
 use Rattle.text.specs.Points.{columnIn, rowIn, placeRefusal, itemRefusal, itemCode, itemsRefusal, itemCodes, pointsRefusal}
-use Rattle.text.specs.Points.{pointsIn, Collected}
-use Rattle.text.specs.Rows.{refusedBoard}
-use Rattle.text.specs.Reading.{blackList, whiteList, stonesRefusal, stonesIn, movesIn, diagramRefusal, diagramCells, formRefusal}
-use Rattle.text.specs.Reading.{readRefusal, readCells}
-use Rattle.text.specs.declared.points.Codes.{Codes}
+use Rattle.text.specs.Points.{pointsIn, leadingIn, listTextRefusal, leadingAnswer, listFound, leadingFound}
+use Rattle.text.specs.Reading.{blackList, whiteList, stonesTextRefusal, stonesIn, movesIn, diagramRefusal, diagramCells, formRefusal}
+use Rattle.text.specs.Reading.{readRefusal, readCells, diagramTextRefusal, diagramTextCells}
+use Rattle.text.specs.declared.points.Leading.{Leading}
 use Rattle.text.proofs.Places.{has-yes, has-no}
-
--- ---- a refusal
-pub refused-as : (n : ℕ) (cells : List ℕ) → (n ≡ 0 → ⊥) → refusedBoard n ≡ boardAnswer n cells
-unfolding refusedBoard boardAnswer
-refused-as n cells h = rw (ne-eqb n 0 h)
+use Rattle.text.proofs.Items.{codes-all}
+use Rattle.text.proofs.Lined.{refused-as}
+use Rattle.lent.specs.Slices.{findAt}
 
 -- ---- codes of points
 place-small : (x n : ℕ) → placeRefusal x n ≡ 0 → (x < 15) × (1 ≤ n) × (n ≤ 15)
@@ -57,31 +55,60 @@ points-good s e =
     pass _ 8 (all-intro _ _ (λ i h. lt→ltb (getD (itemCodes _) i 0) 225 (items-small _ e i h)))
 
 -- ---- the codes that were collected, where nothing is refused
-pub collected-held : (s : List ℕ) (r : Codes) → Collected s r → r .refused ≡ 0 → Held 4097 (pointsIn s) (r .bytes) (r .len)
-collected-held s r h z = held-as 4097 (h .held) (rw (eq-eqb (pointsRefusal s) 0 (sym (h .refusal) ∙ z)))
+module _ (s : List ℕ) (r : Leading) (h : r ≡ listFound s) where
+  pub list-refusal : r .refused ≡ pointsRefusal s
+  unfolding listFound leadingAnswer
+  list-refusal = ap (λ (l : Leading). l .refused) h
 
-module _ (s : List ℕ) (r : Codes) (h : Collected s r) (z : r .refused ≡ 0) (codes : List ℕ) (e : codes ≡ take (r .len) (r .bytes)) where
-  pub codes-are : codes ≡ pointsIn s
-  codes-are = e ∙ held-take 4097 (collected-held s r h z)
+  module _ (z : r .refused ≡ 0) where
+    pub list-held : Held 4097 (pointsIn s) (r .codes) (r .len)
+    unfolding listFound leadingAnswer leadingIn pointsIn pointsRefusal
+    list-held =
+        let e = codes-all (parts comma (trim s)) (sym list-refusal ∙ z) in
+        record {
+          buffer = ap (λ (l : Leading). l .codes) h ∙ ap (padded 4097) e;
+          count = ap (λ (l : Leading). l .len) h ∙ ap length e;
+        }
 
-  pub codes-pass : codesRefusal codes ≡ pointsRefusal s
-  codes-pass = ap codesRefusal codes-are ∙ points-good s (sym (h .refusal) ∙ z) ∙ sym (sym (h .refusal) ∙ z)
+    module _ (codes : List ℕ) (e : codes ≡ take (r .len) (r .codes)) where
+      pub codes-are : codes ≡ pointsIn s
+      codes-are = e ∙ held-take 4097 list-held
+
+      pub codes-pass : codesRefusal codes ≡ pointsRefusal s
+      codes-pass = ap codesRefusal codes-are ∙ points-good s (sym list-refusal ∙ z) ∙ sym (sym list-refusal ∙ z)
+
+-- .. of a text that is a list alone
+module _ (s : List ℕ) (r : Leading) (h : r ≡ leadingFound s) where
+  pub leading-refusal : r .refused ≡ listTextRefusal s
+  unfolding leadingFound leadingAnswer listFound listTextRefusal first
+  leading-refusal = ap (λ (l : Leading). l .refused) h ∙ go (decide (eqb (textRefusal s) 0))
+    where
+      go : (eqb (textRefusal s) 0 ≡ true) ⊎ (eqb (textRefusal s) 0 ≡ false)
+          → leadingFound s .refused ≡ first (textRefusal s) (pointsRefusal s)
+      go (inl t) = rw (t)
+      go (inr t) = rw (t)
+
+  pub leading-held : r .refused ≡ 0 → Held 4097 (pointsIn s) (r .codes) (r .len)
+  unfolding leadingFound listTextRefusal
+  leading-held z =
+      let n = first-none (textRefusal s) (pointsRefusal s) (sym leading-refusal ∙ z) in
+      list-held s r (h ∙ rw (eq-eqb (textRefusal s) 0 (n .0))) z
 
 -- ---- the stones of two lists
-module _ (s part other : List ℕ) (e : (part ≡ blackList s) × (other ≡ whiteList s)) (b w : Codes) (hb : Collected part b)
-    (hw : Collected other w) where
-  pub stones-told : first (b .refused) (w .refused) ≡ stonesRefusal s
-  unfolding stonesRefusal
-  stones-told = ap₂ first (hb .refusal ∙ ap pointsRefusal (e .0)) (hw .refusal ∙ ap pointsRefusal (e .1))
+module _ (s part other : List ℕ) (e : (part ≡ blackList s) × (other ≡ whiteList s)) (b w : Leading) (hb : b ≡ listFound part)
+    (hw : w ≡ listFound other) where
+  pub stones-told : first (b .refused) (w .refused) ≡ stonesTextRefusal s
+  unfolding stonesTextRefusal
+  stones-told = ap₂ first (list-refusal part b hb ∙ ap pointsRefusal (e .0)) (list-refusal other w hw ∙ ap pointsRefusal (e .1))
 
-  pub stones-said : first (b .refused) (w .refused) ≡ 0 → (blacks whites : List ℕ) → blacks ≡ take (b .len) (b .bytes)
-      → whites ≡ take (w .len) (w .bytes)
-      → boardAnswer (first (codesRefusal blacks) (codesRefusal whites)) (stonesCells blacks whites) ≡ boardAnswer (stonesRefusal s)
+  pub stones-said : first (b .refused) (w .refused) ≡ 0 → (blacks whites : List ℕ) → blacks ≡ take (b .len) (b .codes)
+      → whites ≡ take (w .len) (w .codes)
+      → cellsAnswer (first (codesRefusal blacks) (codesRefusal whites)) (stonesCells blacks whites) ≡ cellsAnswer (stonesTextRefusal s)
       (stonesIn s)
-  unfolding stonesRefusal stonesIn
+  unfolding stonesTextRefusal stonesIn
   stones-said z blacks whites p q =
       let n = first-none (b .refused) (w .refused) z in
-      ap₂ boardAnswer
+      ap₂ cellsAnswer
       (ap₂ first (codes-pass part b hb (n .0) blacks p ∙ ap pointsRefusal (e .0))
       (codes-pass other w hw (n .1) whites q ∙ ap pointsRefusal (e .1)))
       (ap₂ stonesCells (codes-are part b hb (n .0) blacks p ∙ ap pointsIn (e .0)) (codes-are other w hw (n .1) whites q
@@ -92,31 +119,38 @@ pub text-first : (s : List ℕ) (r other : ℕ) → r ≡ textRefusal s → (r �
 unfolding first
 text-first s r other e n = rw (ne-eqb (textRefusal s) 0 (λ z. n (e ∙ z))) e
 
-pub text-then : (s : List ℕ) (r other : ℕ) → textRefusal s ≡ 0 → r ≡ other → r ≡ first (textRefusal s) other
-unfolding first
-text-then s r other z e = rw (eq-eqb (textRefusal s) 0 z) e
-
 pub text-short : (s : List ℕ) → textRefusal s ≡ 0 → length s ≤ 4096
 unfolding textRefusal
 text-short s e =
     leb→le (length s) 4096 (passed (leb (length s) 4096) 0 (first-none (unless (leb (length s) 4096) 1) _ e .0))
 
 -- ---- the whole reading, by the tests of the code
-pub read-refused : (s : List ℕ) (r : ℕ) → r ≡ textRefusal s → (r ≡ 0 → ⊥) → refusedBoard r ≡ boardAnswer (readRefusal s) (readCells s)
-unfolding readRefusal
-read-refused s r e n = refused-as r (readCells s) n ∙ ap (λ (k : ℕ). boardAnswer k (readCells s)) (text-first s r (formRefusal s) e n)
+-- a text that is refused as any text is
+pub text-refused : (s : List ℕ) (r : ℕ) (a b : List ℕ) (other : ℕ) → r ≡ textRefusal s → (r ≡ 0 → ⊥)
+    → cellsAnswer r a ≡ cellsAnswer (first (textRefusal s) other) b
+text-refused s r a b other e n = refused-as r a b n ∙ ap (λ (k : ℕ). cellsAnswer k b) (text-first s r other e n)
 
-module _ (s : List ℕ) (z : textRefusal s ≡ 0) (t : List ℕ) (et : t ≡ trim s) (n : ℕ) (en : n ≡ findAt 47 s) where
-  pub read-stones : n < length s → boardAnswer (stonesRefusal t) (stonesIn t) ≡ boardAnswer (readRefusal s) (readCells s)
+module _ (s : List ℕ) (z : textRefusal s ≡ 0) (t : List ℕ) (et : t ≡ trim s) (n : ℕ) (en : n ≡ findAt slash s) where
+  pub read-stones : n < length s → cellsAnswer (stonesTextRefusal t) (stonesIn t) ≡ cellsAnswer (readRefusal s) (readCells s)
   unfolding readRefusal formRefusal readCells first
-  read-stones p = rw (eq-eqb (textRefusal s) 0 z, has-yes 47 s (omega arith), et)
+  read-stones p = rw (eq-eqb (textRefusal s) 0 z, has-yes slash s (omega arith), et)
 
-  module _ (p : length s ≤ n) (m : ℕ) (em : m ≡ findAt 44 s) where
-    pub read-moves : m < length s → boardAnswer (pointsRefusal t) (movesIn t) ≡ boardAnswer (readRefusal s) (readCells s)
+  module _ (p : length s ≤ n) (m : ℕ) (em : m ≡ findAt comma s) where
+    pub read-moves : m < length s → cellsAnswer (pointsRefusal t) (movesIn t) ≡ cellsAnswer (readRefusal s) (readCells s)
     unfolding readRefusal formRefusal readCells first
-    read-moves q = rw (eq-eqb (textRefusal s) 0 z, has-no 47 s (omega arith), has-yes 44 s (omega arith), et)
+    read-moves q = rw (eq-eqb (textRefusal s) 0 z, has-no slash s (omega arith), has-yes comma s (omega arith), et)
 
     pub read-diagram : length s ≤ m
-        → boardAnswer (diagramRefusal (parts 10 t)) (diagramCells (parts 10 t)) ≡ boardAnswer (readRefusal s) (readCells s)
+        → cellsAnswer (diagramRefusal (parts newline t)) (diagramCells (parts newline t)) ≡ cellsAnswer (readRefusal s) (readCells s)
     unfolding readRefusal formRefusal readCells first
-    read-diagram q = rw (eq-eqb (textRefusal s) 0 z, has-no 47 s (omega arith), has-no 44 s (omega arith), et)
+    read-diagram q = rw (eq-eqb (textRefusal s) 0 z, has-no slash s (omega arith), has-no comma s (omega arith), et)
+
+-- a text with neither slash nor comma is read as a diagram
+module _ (s : List ℕ) (p : has slash s ≡ false) (q : has comma s ≡ false) where
+  pub as-diagram-refusal : readRefusal s ≡ diagramTextRefusal s
+  unfolding readRefusal formRefusal diagramTextRefusal
+  as-diagram-refusal = rw (p, q)
+
+  pub as-diagram-cells : readCells s ≡ diagramTextCells s
+  unfolding readCells diagramTextCells
+  as-diagram-cells = rw (p, q)

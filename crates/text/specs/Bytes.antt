@@ -2,31 +2,65 @@
 -- text.
 use mathlib.Core.Bool.{Bool, false, not, _&&_, _||_, cond}
 use mathlib.Core.List.{List, [], _∷_}
-use Prim.Native.Nat.{ℕ, suc}
+use Prim.Native.Nat.{ℕ}
 use lib.Dec.{eqb, leb, ltb}
 use lib.ListN.{length, getD}
-use Rattle.rules.specs.Refusals.{first, unless}
+use Rattle.rules.specs.Refusals.{textLong, textHigh, unless, first}
 use Rattle.rules.specs.Tools.{allBelow}
+use Rattle.lent.specs.Slices.{firstAt}
 
--- the bytes that section 7 names: "byte 10", "," and "/", "o black, x white"
+-- ---- the bytes that texts are made of, each named once, here
+
 abbrev pub newline : ℕ
 newline = 10
+
+abbrev pub blank : ℕ
+blank = 32
+
+abbrev pub plus : ℕ
+plus = 43
 
 abbrev pub comma : ℕ
 comma = 44
 
+abbrev pub dash : ℕ
+dash = 45
+
+abbrev pub dot : ℕ
+dot = 46
+
 abbrev pub slash : ℕ
 slash = 47
 
-abbrev pub letterO : ℕ
-letterO = 111
+abbrev pub digitZero : ℕ
+digitZero = 48
 
-abbrev pub letterX : ℕ
-letterX = 120
+abbrev pub digitNine : ℕ
+digitNine = 57
+
+abbrev pub capitalA : ℕ
+capitalA = 65
+
+abbrev pub capitalO : ℕ
+capitalO = 79
+
+abbrev pub smallA : ℕ
+smallA = 97
+
+abbrev pub smallO : ℕ
+smallO = 111
+
+abbrev pub smallX : ℕ
+smallX = 120
+
+abbrev pub bar : ℕ
+bar = 124
+
+-- ---- white space
 
 -- "Space is bytes 9 to 13 and 32."
 unfoldable pub space : ℕ → Bool
-space b = eqb b 32 || (leb 9 b && leb b 13)
+space b = eqb b blank || (leb 9 b && leb b 13)
 
 -- ---- trimmed
 
@@ -47,6 +81,10 @@ trimEnd (b ∷ s) = keepEnd b (trimEnd s)
 
 unfoldable pub trim : List ℕ → List ℕ
 trim s = trimEnd (trimStart s)
+
+-- how many bytes of white space stand at the start
+abbrev pub leading : List ℕ → ℕ
+leading s = firstAt (λ b. not (space b)) s
 
 -- without any white space
 unfoldable pub dense : List ℕ → List ℕ
@@ -79,22 +117,8 @@ unfoldable pub parts : ℕ → List ℕ → List (List ℕ)
 parts d [] = [] ∷ []
 parts d (b ∷ s) = cond (eqb b d) ([] ∷ parts d s) (ontoFirst b (parts d s))
 
--- ---- places, as the code counts them
-
--- the place of the first byte that passes the test, or the length
-unfoldable pub firstAt : (ℕ → Bool) → List ℕ → ℕ
-firstAt f [] = 0
-firstAt f (b ∷ s) = cond (f b) 0 (suc (firstAt f s))
-
--- the place of the first d, and how many bytes of white space stand at the start
-abbrev pub findAt : ℕ → List ℕ → ℕ
-findAt d s = firstAt (λ b. eqb b d) s
-
-abbrev pub leading : List ℕ → ℕ
-leading s = firstAt (λ b. not (space b)) s
-
 -- ---- refused
 
--- "1 text over 4,096 bytes", "2 a text byte of 128 or more"
+-- 1 for "text over 4,096 bytes", then 2 for "a text byte of 128 or more"
 unfoldable pub textRefusal : List ℕ → ℕ
-textRefusal s = first (unless (leb (length s) 4096) 1) (unless (allBelow (length s) (λ i. ltb (getD s i 0) 128)) 2)
+textRefusal s = first (unless (leb (length s) 4096) textLong) (unless (allBelow (length s) (λ i. ltb (getD s i 0) 128)) textHigh)

@@ -2,5 +2,5 @@
 pub mod Bytes
 pub mod Points
 pub mod Lines
-pub mod Rows
 pub mod Reading
+pub mod Rows

@@ -1,34 +1,33 @@
 -- A point in text, and a comma list of them (section 7). An item of a list is the text of one point. The quoted sentences are document
 -- 01's.
-use mathlib.Core.Path.{_≡_}
 use mathlib.Core.Bool.{Bool, _&&_, cond}
 use mathlib.Core.List.{List, [], _∷_}
 use Prim.Native.Nat.{ℕ, _+_, _*_, _-_}
 use lib.Dec.{eqb, leb, ltb}
-use lib.ListN.{getD, drop}
-use Rattle.rules.specs.Refusals.{first, unless}
-use Rattle.rules.specs.Tools.{only}
+use lib.ListN.{length, getD, drop}
+use Rattle.rules.specs.Refusals.{noColumn, noRow, unless, first}
 use Rattle.rules.specs.Point.{codeOf}
-use Rattle.lent.specs.Lists.{Held, zeros}
-use Rattle.text.specs.Bytes.{comma, trim, parts, textRefusal}
+use Rattle.lent.specs.Lists.{padded}
+use Rattle.text.specs.Bytes.{plus, comma, digitZero, digitNine, capitalA, capitalO, smallA, smallO, trim, parts, textRefusal}
 use Rattle.text.specs.declared.point.Item.{Item}
-use Rattle.text.specs.declared.points.Codes.{Codes}
+use Rattle.text.specs.declared.points.Leading.{Leading}
 
 -- ---- a point
 
 -- "a letter A to O or a to o": the column, 0 to 14, and 15 for any other byte
 unfoldable pub columnOf : ℕ → ℕ
-columnOf b = cond (leb 65 b && leb b 79) (b - 65) (cond (leb 97 b && leb b 111) (b - 97) 15)
+columnOf b =
+    cond (leb capitalA b && leb b capitalO) (b - capitalA) (cond (leb smallA b && leb b smallO) (b - smallA) 15)
 
 unfoldable pub isDigit : ℕ → Bool
-isDigit b = leb 48 b && leb b 57
+isDigit b = leb digitZero b && leb b digitNine
 
--- one byte as a number, and two: "a leading + allowed". What is no number is 0, which is refused as they are.
+-- one byte as a number, and two: "a leading "+" allowed". What is no number is 0, which is refused as they are.
 unfoldable pub oneByte : ℕ → ℕ
-oneByte b = cond (isDigit b) (b - 48) 0
+oneByte b = cond (isDigit b) (b - digitZero) 0
 
 unfoldable pub twoBytes : ℕ → ℕ → ℕ
-twoBytes b e = cond (eqb b 43) (oneByte e) (cond (isDigit b && isDigit e) (10 * (b - 48) + (e - 48)) 0)
+twoBytes b e = cond (eqb b plus) (oneByte e) (cond (isDigit b && isDigit e) (10 * (b - digitZero) + (e - digitZero)) 0)
 
 -- "then at most two bytes read as a number .. Bytes after those are ignored"
 unfoldable pub numberOf : List ℕ → ℕ
@@ -45,7 +44,7 @@ rowIn s = numberOf (drop 1 (trim s))
 
 -- 3 for the letter, then 4 for "a number 1 to 15"
 unfoldable pub placeRefusal : ℕ → ℕ → ℕ
-placeRefusal x n = first (unless (ltb x 15) 3) (unless (leb 1 n && leb n 15) 4)
+placeRefusal x n = first (unless (ltb x 15) noColumn) (unless (leb 1 n && leb n 15) noRow)
 
 unfoldable pub itemRefusal : List ℕ → ℕ
 itemRefusal s = placeRefusal (columnIn s) (rowIn s)
@@ -72,11 +71,27 @@ unfoldable pub itemCodes : List (List ℕ) → List ℕ
 itemCodes [] = []
 itemCodes (s ∷ ss) = itemCode s ∷ itemCodes ss
 
+-- the codes of the items before the first that is refused
+unfoldable pub leadingCodes : List (List ℕ) → List ℕ
+leadingCodes [] = []
+leadingCodes (s ∷ ss) = cond (eqb (itemRefusal s) 0) (itemCode s ∷ leadingCodes ss) []
+
+-- that item's number, from 1; 0 where none is refused
+unfoldable pub slipNumber : List (List ℕ) → ℕ
+slipNumber ss = cond (eqb (itemsRefusal ss) 0) 0 (length (leadingCodes ss) + 1)
+
+-- .. of a text, whose items stand between its commas
 unfoldable pub pointsRefusal : List ℕ → ℕ
 pointsRefusal s = itemsRefusal (parts comma (trim s))
 
 unfoldable pub pointsIn : List ℕ → List ℕ
 pointsIn s = itemCodes (parts comma (trim s))
+
+unfoldable pub leadingIn : List ℕ → List ℕ
+leadingIn s = leadingCodes (parts comma (trim s))
+
+unfoldable pub slipIn : List ℕ → ℕ
+slipIn s = slipNumber (parts comma (trim s))
 
 -- of a text that is a point alone, or a list alone: first what is refused of any text
 
@@ -86,13 +101,16 @@ pointTextRefusal s = first (textRefusal s) (itemRefusal s)
 unfoldable pub listTextRefusal : List ℕ → ℕ
 listTextRefusal s = first (textRefusal s) (pointsRefusal s)
 
--- ---- what the code keeps
+-- ---- what is given back of a list, up to its first refused item
 
--- no codes, and the number of the refusal
-unfoldable pub noCodes : ℕ → Codes
-noCodes n = record { refused = n; bytes = zeros 4097; len = 0 }
+-- the refusal, the number of the refused item, and codes with zeros behind them
+unfoldable pub leadingAnswer : ℕ → ℕ → List ℕ → Leading
+leadingAnswer refused item codes = record { refused = refused; item = item; codes = padded 4097 codes; len = length codes }
 
--- what the code collects: the codes in a buffer, and none where an item is refused
-pub record Collected (s : List ℕ) (r : Codes) : Type 0 where
-  pub refusal : r .refused ≡ pointsRefusal s
-  pub held : Held 4097 (only (eqb (pointsRefusal s) 0) (pointsIn s)) (r .bytes) (r .len)
+-- of the text of a list
+unfoldable pub listFound : List ℕ → Leading
+listFound s = leadingAnswer (pointsRefusal s) (slipIn s) (leadingIn s)
+
+-- of a text that is a list alone: where it is refused as any text is, nothing is read
+unfoldable pub leadingFound : List ℕ → Leading
+leadingFound s = cond (eqb (textRefusal s) 0) (listFound s) (leadingAnswer (textRefusal s) 0 [])

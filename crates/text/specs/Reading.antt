@@ -4,11 +4,11 @@ use mathlib.Core.List.{List, []}
 use Prim.Native.Nat.{ℕ, _-_}
 use lib.Dec.{eqb, leb}
 use lib.ListN.{length, getD}
-use Rattle.rules.specs.Refusals.{first, unless}
+use Rattle.rules.specs.Refusals.{overLength, wrongCount, wrongSize, unless, first}
 use Rattle.rules.specs.Tools.{allBelow, tab}
 use Rattle.rules.specs.Point.{xOf, yOf}
-use Rattle.board.specs.Boards.{movesCells, stonesCells}
-use Rattle.text.specs.Bytes.{newline, comma, slash, letterO, letterX, trim, has, before, behind, parts, dense, textRefusal}
+use Rattle.cells.specs.Cells.{movesCells, stonesCells}
+use Rattle.text.specs.Bytes.{newline, comma, slash, smallO, smallX, trim, has, before, behind, parts, dense, textRefusal}
 use Rattle.text.specs.Points.{pointsRefusal, pointsIn}
 
 -- ---- "Stones: two comma lists, black then white; anything after a second "/" is ignored"
@@ -19,8 +19,8 @@ blackList s = before slash s
 abbrev pub whiteList : List ℕ → List ℕ
 whiteList s = before slash (behind slash s)
 
-unfoldable pub stonesRefusal : List ℕ → ℕ
-stonesRefusal s = first (pointsRefusal (blackList s)) (pointsRefusal (whiteList s))
+unfoldable pub stonesTextRefusal : List ℕ → ℕ
+stonesTextRefusal s = first (pointsRefusal (blackList s)) (pointsRefusal (whiteList s))
 
 unfoldable pub stonesIn : List ℕ → List ℕ
 stonesIn s = stonesCells (pointsIn (blackList s)) (pointsIn (whiteList s))
@@ -38,27 +38,34 @@ sizeAt lines k = length (dense (getD lines k []))
 
 -- "the count of lines (6), then size (7)": `full` says whether all have 15 cells
 unfoldable pub countRefusal : ℕ → Bool → ℕ
-countRefusal count full = first (unless (eqb count 15) 6) (unless full 7)
+countRefusal count full = first (unless (eqb count 15) wrongCount) (unless full wrongSize)
 
 -- "Too long a line (5) is met before the count of lines (6), then size (7)."
 unfoldable pub diagramRefusal : List (List ℕ) → ℕ
 diagramRefusal lines =
-    first (unless (allBelow (length lines) (λ k. leb (sizeAt lines k) 15)) 5)
+    first (unless (allBelow (length lines) (λ k. leb (sizeAt lines k) 15)) overLength)
     (countRefusal (length lines) (allBelow (length lines) (λ k. eqb (sizeAt lines k) 15)))
 
 -- "o black, x white, any other byte empty"
 unfoldable pub letterCell : ℕ → ℕ
-letterCell b = cond (eqb b letterO) 1 (cond (eqb b letterX) 2 0)
+letterCell b = cond (eqb b smallO) 1 (cond (eqb b smallX) 2 0)
 
 -- the cell of column x and row y stands on line 14 - y, at x
 unfoldable pub diagramCells : List (List ℕ) → List ℕ
 diagramCells lines = tab 225 (λ p. letterCell (getD (dense (getD lines (14 - yOf p) [])) (xOf p) 0))
 
+-- .. of a text that is a diagram, whatever bytes it has: "All are trimmed."
+unfoldable pub diagramTextRefusal : List ℕ → ℕ
+diagramTextRefusal s = first (textRefusal s) (diagramRefusal (parts newline (trim s)))
+
+unfoldable pub diagramTextCells : List ℕ → List ℕ
+diagramTextCells s = diagramCells (parts newline (trim s))
+
 -- ---- "Text with "/" is stones; else with "," is moves; else a diagram. All are trimmed."
 
 unfoldable pub formRefusal : List ℕ → ℕ
 formRefusal s =
-    cond (has slash s) (stonesRefusal (trim s)) (cond (has comma s) (pointsRefusal (trim s)) (diagramRefusal (parts newline (trim s))))
+    cond (has slash s) (stonesTextRefusal (trim s)) (cond (has comma s) (pointsRefusal (trim s)) (diagramRefusal (parts newline (trim s))))
 
 unfoldable pub readCells : List ℕ → List ℕ
 readCells s = cond (has slash s) (stonesIn (trim s)) (cond (has comma s) (movesIn (trim s)) (diagramCells (parts newline (trim s))))

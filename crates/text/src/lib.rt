@@ -1,4 +1,5 @@
-// Texts read, from bytes: points, comma lists, lines and boards. `FromStr` of point.rs, line.rs and grid.rs, with the refusals.
+// Texts read, from bytes: points, comma lists, lines, cells and boards. `FromStr` of point.rs, line.rs and grid.rs, with the refusals.
+mod boards;
 mod bytes;
 mod diagram;
 mod forms;
@@ -6,10 +7,15 @@ mod line_text;
 mod point;
 mod points;
 
-pub use bytes::find;
-pub use bytes::head;
-pub use bytes::tail;
-pub use forms::read_board;
+pub use boards::read_board;
+pub use boards::read_diagram;
+pub use bytes::is_space;
+pub use bytes::text_refusal;
+pub use bytes::trimmed;
+pub use diagram::read_diagram_cells;
+pub use forms::read_cells;
 pub use line_text::read_line;
 pub use point::read_point;
+pub use points::Leading;
+pub use points::read_leading;
 pub use points::read_points;

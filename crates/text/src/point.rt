@@ -65,8 +65,8 @@ fn column(b: u8) -> u8
     ensures { λ r. ⌜ r ≡ columnOf b ⌝ }
 {
     match b {
-        b'A'..=b'O' => b - 65,
-        b'a'..=b'o' => b - 97,
+        b'A'..=b'O' => b - b'A',
+        b'a'..=b'o' => b - b'a',
         _ => 15,
     }
 }
@@ -89,7 +89,7 @@ fn one_byte(b: u8) -> u8
     ensures { λ r. ⌜ r ≡ oneByte b ⌝ }
 {
     match b {
-        b'0'..=b'9' => b - 48,
+        b'0'..=b'9' => b - b'0',
         _ => 0,
     }
 }
@@ -101,17 +101,17 @@ fn two_bytes(b: u8, e: u8) -> u8
     if b == b'+' {
         return one_byte(e);
     }
-    if b < 48 {
+    if b < b'0' {
         return 0;
     }
-    if 57 < b {
+    if b'9' < b {
         return 0;
     }
-    if e < 48 {
+    if e < b'0' {
         return 0;
     }
-    if 57 < e {
+    if b'9' < e {
         return 0;
     }
-    10 * (b - 48) + (e - 48)
+    10 * (b - b'0') + (e - b'0')
 }

@@ -1,24 +1,27 @@
 // A comma list of points.
-use super::bytes::find;
-use super::bytes::head;
-use super::bytes::tail;
 use super::bytes::text_refusal;
 use super::bytes::trimmed;
 use super::point::item_in;
+use lent::find;
+use lent::head;
 use lent::keep;
+use lent::tail;
 use lent::write_out;
 use rules::CountAnswer;
 ghost use mathlib.Core.Path.{_≡_};
+ghost use mathlib.Core.List.{[]};
 ghost use Prim.Native.Nat.{_≤_};
 ghost use lib.ListN.{length};
 ghost use Rattle.lent.specs.Lists.{listOut, counted};
-ghost use Rattle.text.specs.Points.{noCodes, pointsIn, listTextRefusal, Collected};
+ghost use Rattle.text.specs.Points.{pointsIn, listTextRefusal, leadingAnswer, listFound, leadingFound};
 
-// The codes of a list's points; none where an item is refused. A text of 4,096 bytes has at most one item more.
-pub(crate) struct Codes {
-    pub(crate) refused: u8,
-    pub(crate) bytes: [u8; 4097],
-    pub(crate) len: usize,
+// The codes of a list's points, and 0 twice; where an item is refused, the codes before it, its refusal, and its number from 1. A text of
+// 4,096 bytes has at most one item more.
+pub struct Leading {
+    pub refused: u8,
+    pub item: usize,
+    pub codes: [u8; 4097],
+    pub len: usize,
 }
 
 // The codes of the points of a comma list, written to the front of `out`, and how many there are.
@@ -26,25 +29,32 @@ pub fn read_points(text: &[u8], out: &mut [u8]) -> CountAnswer
     ensures { λ r. ⌜ (r ≡ counted 1 (listTextRefusal (now (text .entry))) (now (out .entry)) (pointsIn (now (text .entry))))
         × (now (out .exit) ≡ listOut (listTextRefusal (now (text .entry))) (now (out .entry)) (pointsIn (now (text .entry)))) ⌝ }
 {
-    let refused = text_refusal(text);
-    if refused != 0 {
-        return CountAnswer::Refused(refused);
-    }
-    let found = codes_in(text);
+    let found = read_leading(text);
     if found.refused != 0 {
         return CountAnswer::Refused(found.refused);
     }
-    let codes = found.bytes;
+    let codes = found.codes;
     let full = write_out(0, out, &codes, found.len);
     CountAnswer::of(full, small(found.len))
 }
 
-pub(crate) fn codes_in(s: &[u8]) -> Codes
+// The codes of the points of a comma list up to the first item that is refused; none where the text is refused as any text is.
+pub fn read_leading(text: &[u8]) -> Leading
+    ensures { λ r. ⌜ r ≡ leadingFound (now (text .entry)) ⌝ }
+{
+    let refused = text_refusal(text);
+    if refused != 0 {
+        return no_codes(refused);
+    }
+    leading_in(text)
+}
+
+pub(crate) fn leading_in(s: &[u8]) -> Leading
     requires { ⌜ length (now s) ≤ 4096 ⌝ }
-    ensures { λ r. ⌜ Collected (now (s .entry)) r ⌝ }
+    ensures { λ r. ⌜ r ≡ listFound (now (s .entry)) ⌝ }
 {
     let t = trimmed(s);
-    let mut bytes = [0u8; 4097];
+    let mut codes = [0u8; 4097];
     let mut n = 0usize;
     let mut i = 0usize;
     loop {
@@ -52,13 +62,20 @@ pub(crate) fn codes_in(s: &[u8]) -> Codes
         let end = find(rest, b',');
         let item = item_in(head(rest, end));
         if item.refused != 0 {
-            return no_codes(item.refused);
+            let number = n + 1;
+            return Leading {
+                refused: item.refused,
+                item: number,
+                codes,
+                len: n,
+            };
         }
-        n = keep(&mut bytes, n, true, &[item.code]);
+        n = keep(&mut codes, n, true, &[item.code]);
         if rest.len() <= end {
-            return Codes {
+            return Leading {
                 refused: 0,
-                bytes,
+                item: 0,
+                codes,
                 len: n,
             };
         }
@@ -66,12 +83,14 @@ pub(crate) fn codes_in(s: &[u8]) -> Codes
     }
 }
 
-fn no_codes(refused: u8) -> Codes
-    ensures { λ r. ⌜ r ≡ noCodes refused ⌝ }
+// A refusal of the whole text: no item is read.
+fn no_codes(refused: u8) -> Leading
+    ensures { λ r. ⌜ r ≡ leadingAnswer refused 0 [] ⌝ }
 {
-    Codes {
+    Leading {
         refused,
-        bytes: [0u8; 4097],
+        item: 0,
+        codes: [0u8; 4097],
         len: 0,
     }
 }

@@ -3,7 +3,7 @@ use Prim.Native.Nat.{_-_, _<_}
 use native.Mathlib.Omega.{arith}
 use lib.ListN.{length}
 use borrow.Author.Needs.{needs}
-use Rattle.records.proofs.Laws.{line-from, next-less}
+use Rattle.records.proofs.Laws.{place-from, next-less}
 use Rattle.listing_cases.proofs.case_end.Statement.{statement}
 use Rattle.listing_cases.proofs.case_end.Tie as tie
 
@@ -19,7 +19,7 @@ next-line-requires c κs = search needs
 loop-holds : tie.Need-loop-holds Inv-loop μ-loop
 loop-holds c =
     let a = c .before .before in
-    omega (arith, a .pre, c .next-line .ensures, line-from (a .args .cases .now) (a .args .at) (omega (arith, a .pre)))
+    omega (arith, a .pre, c .next-line .ensures, place-from (a .args .cases .now) (a .args .at) 10 (omega (arith, a .pre)))
 
 is-name-requires : tie.Need-is-name-requires Inv-loop μ-loop
 is-name-requires c κs = search needs
@@ -42,7 +42,7 @@ loop-again c =
       arith,
       w .loop .inv,
       c .next-line2 .ensures,
-      line-from (w .before .before .before .args .cases .now) (w .loop .i)
+      place-from (w .before .before .before .args .cases .now) (w .loop .i) 10
           (omega arith),
     )
 

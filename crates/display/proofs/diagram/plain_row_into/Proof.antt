@@ -5,6 +5,7 @@ use native.Mathlib.Omega.{arith}
 use lib.Dec.{ltb}
 use lib.ListN.{length-append}
 use Rattle.rules.specs.Tools.{only}
+use Rattle.text.specs.Bytes.{newline}
 use Rattle.display.specs.Texts.{rowText, plainRow}
 use Rattle.display.proofs.Writing.{kept, then, room-behind}
 use borrow.Author.Needs.{needs}
@@ -19,7 +20,7 @@ unfolding plainRow
 row-into-requires c κs =
     let s = c .before .before .before in
     let k = s .args .k in
-    let e = length-append (rowText (s .args .cells .now) (14 - k)) (only (ltb k 14) (10 ∷ [])) in
+    let e = length-append (rowText (s .args .cells .now) (14 - k)) (only (ltb k 14) (newline ∷ [])) in
     (omega (arith, s .pre .0), omega arith)
 
 keep-byte-requires : tie.Need-keep-byte-requires
@@ -35,7 +36,8 @@ returns c =
     let s = row .before .before .before .before in
     let w = row .row-into .ensures in
     let k = s .args .k in
-    then w (kept (ltb k 14) (10 ∷ []) (room-behind (only (ltb k 14) (10 ∷ [])) w (s .pre .0)) (c .before .before .keep-byte .ensures))
+    then w
+    (kept (ltb k 14) (newline ∷ []) (room-behind (only (ltb k 14) (newline ∷ [])) w (s .pre .0)) (c .before .before .keep-byte .ensures))
 
 pub plain-row-into-spec : {M : Type 1} → statement M
 plain-row-into-spec =

@@ -4,8 +4,8 @@ use Prim.Native.Nat.{_-_, _≤_}
 use native.Mathlib.Omega.{arith}
 use Rattle.rules.specs.Bit.{bit}
 use Rattle.lent.specs.Lists.{zeros}
-use Rattle.grid.proofs.Filled.{filled, filled-none, filled-more, filled-all}
 use Rattle.display.specs.Texts.{valuesOf}
+use Rattle.cells.proofs.Filled.{filled, filled-none, filled-more, filled-all}
 use borrow.Author.Needs.{needs}
 use Rattle.display.proofs.line_text.cells_in.Statement.{statement}
 use Rattle.display.proofs.line_text.cells_in.Tie as tie

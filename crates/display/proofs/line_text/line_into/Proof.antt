@@ -9,6 +9,7 @@ use lib.ListN.{getD}
 use Rattle.rules.specs.Tools.{gather}
 use Rattle.lent.specs.Lists.{Wrote}
 use Rattle.lent.proofs.Laws.{wrote-same, wrote-first, wrote-step, wrote-top}
+use Rattle.text.specs.Bytes.{blank, dot}
 use Rattle.display.specs.Texts.{letterOr, stepped, cellText, lineText}
 use Rattle.display.proofs.Writing.{part-fits}
 use borrow.Author.Needs.{needs}
@@ -62,11 +63,11 @@ loop-again c =
     let e = s .loop .inv .1 in
     let cell = c .before .before .before .before .letter in
     let value = c .before .before .before .before .before .before .value-at .ensures ∙ ap (λ (q : ℕ). getD cells q 0) e in
-    let item = ap (λ (x : ℕ). 32 ∷ x ∷ []) (cell .ensures ∙ ap (letterOr 46) value) in (
+    let item = ap (λ (x : ℕ). blank ∷ x ∷ []) (cell .ensures ∙ ap (letterOr dot) value) in (
       omega (arith, on),
       omega (arith, e, mul-add (a .step) i 1),
       omega (arith, s .loop .inv .2, st .pre),
-      wrote-step f i true (32 ∷ cell .result ∷ []) (s .loop .inv .3) (omega (arith, part-fits f i (a .size) on, st .pre))
+      wrote-step f i true (blank ∷ cell .result ∷ []) (s .loop .inv .3) (omega (arith, part-fits f i (a .size) on, st .pre))
           (c .before .before .keep .ensures) item,
     )
 

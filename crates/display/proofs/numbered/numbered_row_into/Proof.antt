@@ -4,6 +4,7 @@ use mathlib.Core.List.{[], _∷_, _++_}
 use Prim.Native.Nat.{_-_}
 use native.Mathlib.Omega.{arith}
 use lib.ListN.{length-append}
+use Rattle.text.specs.Bytes.{newline}
 use Rattle.display.specs.Texts.{rightAligned, rowText, numberedRow}
 use Rattle.display.proofs.Writing.{kept, then, room-behind}
 use borrow.Author.Needs.{needs}
@@ -19,7 +20,7 @@ right-into-requires c κs =
     let s = c .before .before .before in
     let a = rightAligned (15 - s .args .k) in
     let b = rowText (s .args .cells .now) (14 - s .args .k) in
-    let x = length-append (a ++ b) (10 ∷ []) in
+    let x = length-append (a ++ b) (newline ∷ []) in
     let y = length-append a b in
     omega (arith, s .pre .0)
 
@@ -32,7 +33,7 @@ row-into-requires c κs =
     let s = c .before .before .before .before .before .before .before in
     let a = rightAligned (15 - s .args .k) in
     let b = rowText (s .args .cells .now) (14 - s .args .k) in
-    let x = length-append (a ++ b) (10 ∷ []) in
+    let x = length-append (a ++ b) (newline ∷ []) in
     (room-behind b (c .before .before .before .right-into .ensures) (omega (arith, s .pre .0)), omega arith)
 
 keep-byte-requires : tie.Need-keep-byte-requires
@@ -48,7 +49,7 @@ returns c =
     let number = row .before .before .before .before in
     let s = number .before .before .before .before in
     let w = then (number .right-into .ensures) (row .row-into .ensures) in
-    then w (kept true (10 ∷ []) (room-behind (10 ∷ []) w (s .pre .0)) (c .before .before .keep-byte .ensures))
+    then w (kept true (newline ∷ []) (room-behind (newline ∷ []) w (s .pre .0)) (c .before .before .keep-byte .ensures))
 
 pub numbered-row-into-spec : {M : Type 1} → statement M
 numbered-row-into-spec =

@@ -1,6 +1,7 @@
 -- `display::numbered::right_into` meets its contract: a space or none, and the digits behind it. Assumes nothing.
 use mathlib.Core.List.{[], _∷_}
 use lib.Dec.{ltb}
+use Rattle.text.specs.Bytes.{blank}
 use Rattle.display.specs.Texts.{numberText, rightAligned}
 use Rattle.display.proofs.Writing.{kept-before, then, room-behind}
 use borrow.Author.Needs.{needs}
@@ -15,7 +16,7 @@ unfolding rightAligned
 number-into-requires c κs =
     let s = c .before .before .before .before .before .before in
     let n = s .args .n in
-    let w = kept-before (ltb n 10) (32 ∷ []) (numberText n) (s .pre) (c .before .before .before .keep-byte .ensures) in
+    let w = kept-before (ltb n 10) (blank ∷ []) (numberText n) (s .pre) (c .before .before .before .keep-byte .ensures) in
     room-behind (numberText n) w (s .pre)
 
 same-length : tie.Need-same-length
@@ -28,7 +29,7 @@ returns c =
     let front = last .before .before .before .before in
     let s = front .before .before .before in
     let n = s .args .n in
-    then (kept-before (ltb n 10) (32 ∷ []) (numberText n) (s .pre) (front .keep-byte .ensures)) (last .number-into .ensures)
+    then (kept-before (ltb n 10) (blank ∷ []) (numberText n) (s .pre) (front .keep-byte .ensures)) (last .number-into .ensures)
 
 pub right-into-spec : {M : Type 1} → statement M
 right-into-spec = tie.close (tie.spec keep-byte-requires number-into-requires same-length returns)

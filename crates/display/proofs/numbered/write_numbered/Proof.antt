@@ -1,61 +1,55 @@
--- `display::write_numbered` meets its contract: the rows are laid out, then handed out. Assumes nothing.
-use mathlib.Core.Path.{ap}
-use native.Mathlib.Omega.{arith}
-use Rattle.lent.specs.Lists.{zeros}
-use Rattle.lent.proofs.Laws.{wrote-as}
+-- `display::numbered::write_numbered` meets its contract: refused, or the text of the board's cells. Assumes nothing.
+use mathlib.Core.Path.{ap, sym, _∙_}
+use denote.Ref.{now}
+use Rattle.cells.proofs.Given.{cells-pass}
+use Rattle.grid.proofs.Lines.{cells-cellsOf}
 use Rattle.board.specs.Boards.{cells}
+use Rattle.cells.specs.Cells.{cellsRefusal}
 use Rattle.display.specs.Texts.{numberedOf}
-use Rattle.display.proofs.Writing.{handed}
-use Rattle.display.proofs.Sizes.{numbered-length}
+use Rattle.display.proofs.Writing.{handed-as, turned-down}
 use borrow.Author.Needs.{needs}
 use Rattle.display.proofs.numbered.write_numbered.Statement.{statement}
 use Rattle.display.proofs.numbered.write_numbered.Tie as tie
 
-cells-of-requires : tie.Need-cells-of-requires
-cells-of-requires c κs = search needs
-
-slice-aggregate-numbered-into : tie.Need-slice-aggregate-numbered-into
-slice-aggregate-numbered-into c = search needs
-
-slice-aggregate-numbered-into-2 : tie.Need-slice-aggregate-numbered-into-2
-slice-aggregate-numbered-into-2 c = search needs
-
-numbered-into-requires : tie.Need-numbered-into-requires
-numbered-into-requires c κs = omega (arith, numbered-length (c .before .before .cells-of .result))
-
 refusal-requires : tie.Need-refusal-requires
 refusal-requires c κs = search needs
 
-slice-aggregate-hand-out : tie.Need-slice-aggregate-hand-out
-slice-aggregate-hand-out c = search needs
+returns : tie.Need-returns
+returns c =
+    let a = c .before .before .before .args in
+    turned-down (now (a .out)) (numberedOf (cells (a .board))) (c .before .refusal .ensures) (c .if1 .taken)
 
-hand-out-requires : tie.Need-hand-out-requires
-hand-out-requires c κs = search needs
+cells-on-requires : tie.Need-cells-on-requires
+cells-on-requires c κs = search needs
+
+slice-aggregate-write-numbered-of : tie.Need-slice-aggregate-write-numbered-of
+slice-aggregate-write-numbered-of c = search needs
+
+write-numbered-of-requires : tie.Need-write-numbered-of-requires
+write-numbered-of-requires c κs = search needs
 
 same-length : tie.Need-same-length
 same-length c = search needs
 
-returns : tie.Need-returns
-unfolding zeros
-returns c =
-    let out = c .before .before in
-    let refused = out .before .before .before in
-    let text = refused .before .before in
-    let shown = text .before .before .before in
-    let size = numbered-length (cells (shown .before .before .before .before .args .board)) in
-    let w = wrote-as (text .numbered-into .ensures) (ap numberedOf (shown .cells-of .ensures)) in
-    handed _ _ (refused .refusal .ensures) 527 w (omega arith) (out .hand-out .ensures)
+returns-2 : tie.Need-returns-2
+returns-2 c =
+    let w = c .before .before in
+    let s = w .before .before .before in
+    let o = s .before .before .before in
+    let a = o .before .before .before .args in
+    let shown = s .cells-on .ensures in
+    let sound = sym (o .if1 .left) ∙ o .before .refusal .ensures in
+    let none = ap cellsRefusal shown ∙ cells-pass (cells (a .board)) (cells-cellsOf (a .board .lines)) in
+    handed-as (now (a .out)) (numberedOf (cells (a .board))) (none ∙ sound) (ap numberedOf shown) (w .write-numbered-of .ensures)
 
 pub write-numbered-spec : {M : Type 1} → statement M
 write-numbered-spec =
     tie.close
     (tie.spec
-    cells-of-requires
-    slice-aggregate-numbered-into
-    slice-aggregate-numbered-into-2
-    numbered-into-requires
     refusal-requires
-    slice-aggregate-hand-out
-    hand-out-requires
+    returns
+    cells-on-requires
+    slice-aggregate-write-numbered-of
+    write-numbered-of-requires
     same-length
-    returns)
+    returns-2)

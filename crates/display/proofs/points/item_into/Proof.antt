@@ -1,5 +1,6 @@
 -- `display::points::item_into` meets its contract: a comma or none, and the point behind it. Assumes nothing.
 use mathlib.Core.List.{[], _∷_}
+use Rattle.text.specs.Bytes.{comma}
 use Rattle.display.specs.Texts.{pointText, itemText}
 use Rattle.display.proofs.Writing.{kept-before, then, room-behind}
 use borrow.Author.Needs.{needs}
@@ -14,7 +15,7 @@ unfolding itemText
 point-into-requires c κs =
     let s = c .before .before .before .before .before .before in
     let point = pointText (s .args .code) in
-    let w = kept-before (s .args .behind) (44 ∷ []) point (s .pre) (c .before .before .before .keep-byte .ensures) in
+    let w = kept-before (s .args .behind) (comma ∷ []) point (s .pre) (c .before .before .before .keep-byte .ensures) in
     room-behind point w (s .pre)
 
 same-length : tie.Need-same-length
@@ -27,7 +28,7 @@ returns c =
     let front = last .before .before .before .before in
     let s = front .before .before .before in
     let point = pointText (s .args .code) in
-    then (kept-before (s .args .behind) (44 ∷ []) point (s .pre) (front .keep-byte .ensures)) (last .point-into .ensures)
+    then (kept-before (s .args .behind) (comma ∷ []) point (s .pre) (front .keep-byte .ensures)) (last .point-into .ensures)
 
 pub item-into-spec : {M : Type 1} → statement M
 item-into-spec = tie.close (tie.spec keep-byte-requires point-into-requires same-length returns)

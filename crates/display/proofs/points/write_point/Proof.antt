@@ -4,8 +4,8 @@ use borrow.Author.Needs.{needs}
 use Rattle.display.proofs.points.write_point.Statement.{statement}
 use Rattle.display.proofs.points.write_point.Tie as tie
 
-point-word-requires : tie.Need-point-word-requires
-point-word-requires c κs = search needs
+point-label-requires : tie.Need-point-label-requires
+point-label-requires c κs = search needs
 
 code-refusal-requires : tie.Need-code-refusal-requires
 code-refusal-requires c κs = search needs
@@ -23,14 +23,14 @@ returns : tie.Need-returns
 returns c =
     let out = c .before .before in
     let refused = out .before .before .before in
-    handed-held _ _ (refused .code-refusal .ensures) 4 (word-held _ _ (refused .before .before .point-word .ensures))
+    handed-held _ _ (refused .code-refusal .ensures) 4 (word-held _ _ (refused .before .before .point-label .ensures))
     (out .hand-out .ensures)
 
 pub write-point-spec : {M : Type 1} → statement M
 write-point-spec =
     tie.close
     (tie.spec
-    point-word-requires
+    point-label-requires
     code-refusal-requires
     slice-aggregate-hand-out
     hand-out-requires

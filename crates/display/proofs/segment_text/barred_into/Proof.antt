@@ -7,6 +7,7 @@ use native.Mathlib.Omega.{arith}
 use lib.ListN.{length}
 use Rattle.rules.specs.Tools.{only}
 use Rattle.lent.proofs.Laws.{wrote-as}
+use Rattle.text.specs.Bytes.{bar}
 use Rattle.display.specs.Texts.{barred}
 use Rattle.display.proofs.Writing.{kept, kept-before, then, room-behind}
 use borrow.Author.Needs.{needs}
@@ -34,12 +35,12 @@ returns c =
     let last = c .before .before in
     let front = last .before .before .before .before .before in
     let s = front .before .before .before .before in
-    let bar = front .before .bar-before in
+    let asked = front .before .bar-before in
     let cell = last .before .letter in
-    let same = ap₂ (λ (b : Bool) (x : ℕ). only b (124 ∷ []) ++ (x ∷ [])) (bar .ensures) (cell .ensures) in
+    let same = ap₂ (λ (b : Bool) (x : ℕ). only b (bar ∷ []) ++ (x ∷ [])) (asked .ensures) (cell .ensures) in
     let long = ap length same in
     let room = s .pre in
-    let w = kept-before (bar .result) (124 ∷ []) (cell .result ∷ []) (omega arith) (front .keep-byte .ensures) in
+    let w = kept-before (asked .result) (bar ∷ []) (cell .result ∷ []) (omega arith) (front .keep-byte .ensures) in
     let v = kept true (cell .result ∷ []) (room-behind (cell .result ∷ []) w (omega arith)) (last .keep-byte2 .ensures) in
     wrote-as (then w v) same
 

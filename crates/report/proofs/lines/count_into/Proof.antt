@@ -3,6 +3,7 @@ use mathlib.Core.List.{[], _∷_}
 use native.Mathlib.Omega.{arith}
 use borrow.Author.Needs.{needs}
 use Rattle.lent.proofs.Laws.{wrote-same}
+use Rattle.text.specs.Bytes.{newline}
 use Rattle.display.proofs.Writing.{then}
 use Rattle.display.proofs.Sizes.{number-short}
 use Rattle.report.specs.Listing.{countText}
@@ -44,7 +45,8 @@ returns c =
     let y = d .number-into .ensures in
     let m = wrote-same y in
     let f = y .place in
-    then (then x y) (put (10 ∷ []) (n .keep2 .ensures) 1 (omega arith) (omega (arith, a .pre .0, a .pre .1, number-short (a .args .n))))
+    then (then x y)
+    (put (newline ∷ []) (n .keep2 .ensures) 1 (omega arith) (omega (arith, a .pre .0, a .pre .1, number-short (a .args .n))))
 
 pub count-into-spec : {M : Type 1} → statement M
 count-into-spec =

@@ -3,6 +3,7 @@ use mathlib.Core.List.{[], _∷_}
 use native.Mathlib.Omega.{arith}
 use borrow.Author.Needs.{needs}
 use Rattle.lent.proofs.Laws.{wrote-same}
+use Rattle.text.specs.Bytes.{newline, blank}
 use Rattle.display.proofs.Writing.{then}
 use Rattle.display.proofs.Sizes.{point-short}
 use Rattle.report.specs.Listing.{pointLine}
@@ -28,7 +29,7 @@ kind-into-requires c κs =
     let l = wrote-same x in
     let e = x .place in
     let short = point-short (a .args .code) in
-    let y = put (32 ∷ []) (k .keep .ensures) 1 (omega arith) (omega (arith, a .pre)) in
+    let y = put (blank ∷ []) (k .keep .ensures) 1 (omega arith) (omega (arith, a .pre)) in
     let m = wrote-same y in
     let f = y .place in
     omega (arith, a .pre)
@@ -54,13 +55,13 @@ returns c =
     let l = wrote-same x in
     let e = x .place in
     let short = point-short (a .args .code) in
-    let y = put (32 ∷ []) (k .keep .ensures) 1 (omega arith) (omega (arith, a .pre)) in
+    let y = put (blank ∷ []) (k .keep .ensures) 1 (omega arith) (omega (arith, a .pre)) in
     let m = wrote-same y in
     let f = y .place in
     let z = d .kind-into .ensures in
     let o = wrote-same z in
     let g = z .place in
-    then (then (then x y) z) (put (10 ∷ []) (n .keep2 .ensures) 1 (omega arith) (omega (arith, a .pre, kind-short (a .args .kind))))
+    then (then (then x y) z) (put (newline ∷ []) (n .keep2 .ensures) 1 (omega arith) (omega (arith, a .pre, kind-short (a .args .kind))))
 
 pub line-into-spec : {M : Type 1} → statement M
 line-into-spec =

@@ -6,8 +6,8 @@ use Rattle.report.proofs.Words.{put-word}
 use Rattle.report.proofs.lines.number_into.Statement.{statement}
 use Rattle.report.proofs.lines.number_into.Tie as tie
 
-number-word-requires : tie.Need-number-word-requires
-number-word-requires c κs = search needs
+number-label-requires : tie.Need-number-label-requires
+number-label-requires c κs = search needs
 
 slice-aggregate-head : tie.Need-slice-aggregate-head
 slice-aggregate-head c = search needs
@@ -27,13 +27,13 @@ returns c =
     let w = k .before .before .before .before .before in
     let a = w .before .before in
     let short = number-short (a .args .n) in
-    put-word _ (k .keep .ensures) _ _ (w .number-word .ensures) (k .before .head .ensures) (omega arith) (a .pre)
+    put-word _ (k .keep .ensures) _ _ (w .number-label .ensures) (k .before .head .ensures) (omega arith) (a .pre)
 
 pub number-into-spec : {M : Type 1} → statement M
 number-into-spec =
     tie.close
     (tie.spec
-    number-word-requires
+    number-label-requires
     slice-aggregate-head
     head-requires
     keep-requires

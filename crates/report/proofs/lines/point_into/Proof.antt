@@ -5,8 +5,8 @@ use Rattle.report.proofs.Words.{put-word}
 use Rattle.report.proofs.lines.point_into.Statement.{statement}
 use Rattle.report.proofs.lines.point_into.Tie as tie
 
-point-word-requires : tie.Need-point-word-requires
-point-word-requires c κs = search needs
+point-label-requires : tie.Need-point-label-requires
+point-label-requires c κs = search needs
 
 slice-aggregate-head : tie.Need-slice-aggregate-head
 slice-aggregate-head c = search needs
@@ -25,13 +25,13 @@ returns c =
     let k = c .before .before in
     let w = k .before .before .before .before .before in
     let a = w .before .before in
-    put-word _ (k .keep .ensures) _ _ (w .point-word .ensures) (k .before .head .ensures) (point-short (a .args .code)) (a .pre)
+    put-word _ (k .keep .ensures) _ _ (w .point-label .ensures) (k .before .head .ensures) (point-short (a .args .code)) (a .pre)
 
 pub point-into-spec : {M : Type 1} → statement M
 point-into-spec =
     tie.close
     (tie.spec
-    point-word-requires
+    point-label-requires
     slice-aggregate-head
     head-requires
     keep-requires

@@ -7,7 +7,7 @@ use denote.Ref.{now}
 use lib.ListN.{length, drop}
 use borrow.Author.Needs.{needs}
 use Rattle.text.specs.Bytes.{leading}
-use Rattle.text.proofs.Places.{first-hit, first-step, first-end}
+use Rattle.lent.proofs.Found.{first-hit, first-step, first-end}
 use Rattle.text.proofs.bytes.start.Statement.{statement}
 use Rattle.text.proofs.bytes.start.Tie as tie
 

@@ -3,21 +3,23 @@ use mathlib.Core.Path.{_∙_}
 use denote.Ref.{now}
 use borrow.Author.Needs.{needs}
 use Rattle.text.specs.Reading.{movesIn}
-use Rattle.text.proofs.Said.{refused-as, codes-are, codes-pass}
+use Rattle.text.proofs.Lined.{refused-as}
+use Rattle.text.proofs.Said.{list-refusal, codes-are, codes-pass}
 use Rattle.text.proofs.forms.moves_in.Statement.{statement}
 use Rattle.text.proofs.forms.moves_in.Tie as tie
 
-codes-in-requires : tie.Need-codes-in-requires
-codes-in-requires c κs = c .before .pre
+leading-in-requires : tie.Need-leading-in-requires
+leading-in-requires c κs = c .before .pre
 
-refused-board-requires : tie.Need-refused-board-requires
-refused-board-requires c κs = search needs
+of-requires : tie.Need-of-requires
+of-requires c κs = search needs
 
 returns : tie.Need-returns
 returns c =
     let x = c .before .before .before in
     let t = now (x .before .before .args .t) in
-    c .refused-board .ensures ∙ refused-as _ (movesIn t) (c .before .if1 .taken) ∙ rw (x .codes-in .ensures .refusal)
+    c .of .ensures ∙ refused-as _ _ (movesIn t) (c .before .if1 .taken)
+    ∙ rw (list-refusal _ (x .leading-in .result) (x .leading-in .ensures))
 
 slice-aggregate-head : tie.Need-slice-aggregate-head
 slice-aggregate-head c = search needs
@@ -25,8 +27,8 @@ slice-aggregate-head c = search needs
 head-requires : tie.Need-head-requires
 head-requires c κs = search needs
 
-from-moves-requires : tie.Need-from-moves-requires
-from-moves-requires c κs = search needs
+moves-cells-requires : tie.Need-moves-cells-requires
+moves-cells-requires c κs = search needs
 
 returns-2 : tie.Need-returns-2
 unfolding movesIn
@@ -34,18 +36,18 @@ returns-2 c =
     let e = c .before .before .before .before in
     let x = e .before .before in
     let t = now (x .before .before .args .t) in
-    let are = codes-are t (x .codes-in .result) (x .codes-in .ensures) (e .if1 .left) _ (c .before .head .ensures) in
-    let pass = codes-pass t (x .codes-in .result) (x .codes-in .ensures) (e .if1 .left) _ (c .before .head .ensures) in
-    c .from-moves .ensures ∙ rw (pass, are)
+    let are = codes-are t (x .leading-in .result) (x .leading-in .ensures) (e .if1 .left) _ (c .before .head .ensures) in
+    let pass = codes-pass t (x .leading-in .result) (x .leading-in .ensures) (e .if1 .left) _ (c .before .head .ensures) in
+    c .moves-cells .ensures ∙ rw (pass, are)
 
 pub moves-in-spec : {M : Type 1} → statement M
 moves-in-spec =
     tie.close
     (tie.spec
-    codes-in-requires
-    refused-board-requires
+    leading-in-requires
+    of-requires
     returns
     slice-aggregate-head
     head-requires
-    from-moves-requires
+    moves-cells-requires
     returns-2)

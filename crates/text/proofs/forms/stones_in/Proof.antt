@@ -6,11 +6,12 @@ use denote.Ref.{now}
 use lib.ListN.{length}
 use borrow.Author.Needs.{needs}
 use Rattle.rules.specs.Refusals.{first}
-use Rattle.board.specs.Answers.{boardAnswer}
-use Rattle.text.specs.Bytes.{before}
+use Rattle.cells.specs.Answers.{cellsAnswer}
+use Rattle.text.specs.Bytes.{slash, before}
 use Rattle.text.specs.Reading.{stonesIn}
 use Rattle.text.proofs.Places.{two-lists, take-le, drop-le}
-use Rattle.text.proofs.Said.{refused-as, stones-told, stones-said}
+use Rattle.text.proofs.Lined.{refused-as}
+use Rattle.text.proofs.Said.{stones-told, stones-said}
 use Rattle.text.proofs.forms.stones_in.Statement.{statement}
 use Rattle.text.proofs.forms.stones_in.Tie as tie
 
@@ -26,8 +27,8 @@ tail-requires-2 c κs = search needs
 head-requires : tie.Need-head-requires
 head-requires c κs = search needs
 
-codes-in-requires : tie.Need-codes-in-requires
-codes-in-requires c κs =
+leading-in-requires : tie.Need-leading-in-requires
+leading-in-requires c κs =
     let a = c .before .before .before .before .before in
     let e = ap length (c .head .ensures) in
     omega (arith, take-le (c .before .before .before .find .result) (now (a .args .t)), a .pre)
@@ -38,8 +39,8 @@ find-requires-2 c κs = search needs
 head-requires-2 : tie.Need-head-requires-2
 head-requires-2 c κs = search needs
 
-codes-in-requires-2 : tie.Need-codes-in-requires-2
-codes-in-requires-2 c κs =
+leading-in-requires-2 : tie.Need-leading-in-requires-2
+leading-in-requires-2 c κs =
     let r = c .before .before .before .before in
     let a = r .before .before .before .before in
     let h = ap length (c .head2 .ensures) in
@@ -56,8 +57,8 @@ codes-in-requires-2 c κs =
 first-requires : tie.Need-first-requires
 first-requires c κs = search needs
 
-refused-board-requires : tie.Need-refused-board-requires
-refused-board-requires c κs = search needs
+of-requires : tie.Need-of-requires
+of-requires c κs = search needs
 
 returns : tie.Need-returns
 returns c =
@@ -67,12 +68,12 @@ returns c =
     let r = b .before .before in
     let s = now (r .before .before .before .before .args .t) in
     let n = r .before .before .find in
-    let e = two-lists 47 (n .result) (w .before .before .find2 .result) s (now (b .before .head .result)) (now (r .before .tail .result))
+    let e = two-lists slash (n .result) (w .before .before .find2 .result) s (now (b .before .head .result)) (now (r .before .tail .result))
     (now (r .tail2 .result)) (now (w .before .head2 .result)) (n .ensures) (b .before .head .ensures) (r .before .tail .ensures)
     (r .tail2 .ensures) (w .before .before .find2 .ensures) (w .before .head2 .ensures) in
-    let told = stones-told s _ _ e (b .codes-in .result) (w .codes-in2 .result) (b .codes-in .ensures) (w .codes-in2 .ensures) in
-    c .refused-board .ensures ∙ refused-as _ (stonesIn s) (c .before .if1 .taken)
-    ∙ ap (λ (k : ℕ). boardAnswer k (stonesIn s)) (f .first .ensures ∙ told)
+    let told = stones-told s _ _ e (b .leading-in .result) (w .leading-in2 .result) (b .leading-in .ensures) (w .leading-in2 .ensures) in
+    c .of .ensures ∙ refused-as _ _ (stonesIn s) (c .before .if1 .taken)
+    ∙ ap (λ (k : ℕ). cellsAnswer k (stonesIn s)) (f .first .ensures ∙ told)
 
 slice-aggregate-head : tie.Need-slice-aggregate-head
 slice-aggregate-head c = search needs
@@ -86,8 +87,8 @@ slice-aggregate-head-2 c = search needs
 head-requires-4 : tie.Need-head-requires-4
 head-requires-4 c κs = search needs
 
-from-stones-requires : tie.Need-from-stones-requires
-from-stones-requires c κs = search needs
+stones-cells-requires : tie.Need-stones-cells-requires
+stones-cells-requires c κs = search needs
 
 returns-2 : tie.Need-returns-2
 returns-2 c =
@@ -98,11 +99,11 @@ returns-2 c =
     let r = b .before .before in
     let s = now (r .before .before .before .before .args .t) in
     let n = r .before .before .find in
-    let e = two-lists 47 (n .result) (w .before .before .find2 .result) s (now (b .before .head .result)) (now (r .before .tail .result))
+    let e = two-lists slash (n .result) (w .before .before .find2 .result) s (now (b .before .head .result)) (now (r .before .tail .result))
     (now (r .tail2 .result)) (now (w .before .head2 .result)) (n .ensures) (b .before .head .ensures) (r .before .tail .ensures)
     (r .tail2 .ensures) (w .before .before .find2 .ensures) (w .before .head2 .ensures) in
-    c .from-stones .ensures
-    ∙ stones-said s _ _ e (b .codes-in .result) (w .codes-in2 .result) (b .codes-in .ensures) (w .codes-in2 .ensures)
+    c .stones-cells .ensures
+    ∙ stones-said s _ _ e (b .leading-in .result) (w .leading-in2 .result) (b .leading-in .ensures) (w .leading-in2 .ensures)
     (sym (f .first .ensures) ∙ left .if1 .left) _ _ (c .before .before .before .head3 .ensures) (c .before .head4 .ensures)
 
 pub stones-in-spec : {M : Type 1} → statement M
@@ -113,16 +114,16 @@ stones-in-spec =
     tail-requires
     tail-requires-2
     head-requires
-    codes-in-requires
+    leading-in-requires
     find-requires-2
     head-requires-2
-    codes-in-requires-2
+    leading-in-requires-2
     first-requires
-    refused-board-requires
+    of-requires
     returns
     slice-aggregate-head
     head-requires-3
     slice-aggregate-head-2
     head-requires-4
-    from-stones-requires
+    stones-cells-requires
     returns-2)

@@ -4,7 +4,7 @@ use Prim.Native.Nat.{_≤_, _-_}
 use native.Mathlib.Omega.{arith}
 use lib.ListN.{length, drop}
 use borrow.Author.Needs.{needs}
-use Rattle.text.specs.Bytes.{dense}
+use Rattle.text.specs.Bytes.{smallO, smallX, dense}
 use Rattle.text.proofs.Marks.{markedTo, marked-none, marked-more, dense-space, dense-cell, dense-end, next-in, next-is, next-rest}
 use Rattle.text.proofs.Marks.{row-said, row-long}
 use denote.Ref.{now}
@@ -13,8 +13,8 @@ use Rattle.text.proofs.line_text.line_in.Tie as tie
 
 abbrev Inv-loop : tie.InvT-loop
 Inv-loop s blacks₀ whites₀ x₀ i₀ blacks whites x i =
-    (i ≤ length s) × (x ≤ 15) × (x ≤ length (dense s)) × (dense (drop i s) ≡ drop x (dense s)) × (blacks ≡ markedTo x (dense s) 111)
-    × (whites ≡ markedTo x (dense s) 120)
+    (i ≤ length s) × (x ≤ 15) × (x ≤ length (dense s)) × (dense (drop i s) ≡ drop x (dense s)) × (blacks ≡ markedTo x (dense s) smallO)
+    × (whites ≡ markedTo x (dense s) smallX)
 
 abbrev μ-loop : tie.MeasureT-loop
 μ-loop s blacks₀ whites₀ x₀ i₀ blacks whites x i = length s - i
@@ -22,7 +22,7 @@ abbrev μ-loop : tie.MeasureT-loop
 loop-holds : tie.Need-loop-holds Inv-loop μ-loop
 loop-holds c =
     let d = dense (c .before .args .s .now) in
-    (omega arith, omega arith, omega arith, refl, marked-none d 111, marked-none d 120)
+    (omega arith, omega arith, omega arith, refl, marked-none d smallO, marked-none d smallX)
 
 shared-slice-read-b : tie.Need-shared-slice-read-b Inv-loop μ-loop
 shared-slice-read-b c = omega arith
@@ -81,8 +81,8 @@ loop-again-2 c =
       omega arith,
       omega arith,
       sym (next-rest 0 (dense s) x _ _ e),
-      c .before .set-bit .ensures ∙ rw (w .loop .inv .4) (marked-more x 111 (dense s) _ at),
-      c .set-bit2 .ensures ∙ rw (w .loop .inv .5) (marked-more x 120 (dense s) _ at),
+      c .before .set-bit .ensures ∙ rw (w .loop .inv .4) (marked-more x smallO (dense s) _ at),
+      c .set-bit2 .ensures ∙ rw (w .loop .inv .5) (marked-more x smallX (dense s) _ at),
     )
 
 returns-2 : tie.Need-returns-2 Inv-loop μ-loop

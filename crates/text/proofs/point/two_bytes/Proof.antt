@@ -2,6 +2,7 @@
 use native.Mathlib.Omega.{arith}
 use borrow.Author.Needs.{needs}
 use borrow.Author.Tests.{le-leb, lt-leb, eq-eqb, ne-eqb}
+use Rattle.text.specs.Bytes.{plus, digitZero, digitNine}
 use Rattle.text.specs.Points.{isDigit, twoBytes}
 use Rattle.text.proofs.point.two_bytes.Statement.{statement}
 use Rattle.text.proofs.point.two_bytes.Tie as tie
@@ -11,29 +12,29 @@ one-byte-requires c κs = search needs
 
 returns : tie.Need-returns
 unfolding twoBytes
-returns c = rw (eq-eqb (c .before .before .args .b) 43 (omega arith)) (c .one-byte .ensures)
+returns c = rw (eq-eqb (c .before .before .args .b) plus (omega arith)) (c .one-byte .ensures)
 
 returns-2 : tie.Need-returns-2
 unfolding twoBytes isDigit
 returns-2 c =
     let a = c .before .before .args in
-    rw (ne-eqb (a .b) 43 (c .before .if1 .left), lt-leb 48 (a .b) (omega arith))
+    rw (ne-eqb (a .b) plus (c .before .if1 .left), lt-leb digitZero (a .b) (omega arith))
 
 returns-3 : tie.Need-returns-3
 unfolding twoBytes isDigit
 returns-3 c =
     let a = c .before .before .before .args in
-    rw (ne-eqb (a .b) 43 (λ e. omega arith), le-leb 48 (a .b) (omega arith), lt-leb (a .b) 57 (omega arith))
+    rw (ne-eqb (a .b) plus (λ e. omega arith), le-leb digitZero (a .b) (omega arith), lt-leb (a .b) digitNine (omega arith))
 
 returns-4 : tie.Need-returns-4
 unfolding twoBytes isDigit
 returns-4 c =
     let a = c .before .before .before .before .args in
     rw (
-      ne-eqb (a .b) 43 (λ e. omega arith),
-      le-leb 48 (a .b) (omega arith),
-      le-leb (a .b) 57 (omega arith),
-      lt-leb 48 (a .e)
+      ne-eqb (a .b) plus (λ e. omega arith),
+      le-leb digitZero (a .b) (omega arith),
+      le-leb (a .b) digitNine (omega arith),
+      lt-leb digitZero (a .e)
           (omega arith),
     )
 
@@ -42,11 +43,11 @@ unfolding twoBytes isDigit
 returns-5 c =
     let a = c .before .before .before .before .before .args in
     rw (
-      ne-eqb (a .b) 43 (λ e. omega arith),
-      le-leb 48 (a .b) (omega arith),
-      le-leb (a .b) 57 (omega arith),
-      le-leb 48 (a .e) (omega arith),
-      lt-leb (a .e) 57 (omega arith),
+      ne-eqb (a .b) plus (λ e. omega arith),
+      le-leb digitZero (a .b) (omega arith),
+      le-leb (a .b) digitNine (omega arith),
+      le-leb digitZero (a .e) (omega arith),
+      lt-leb (a .e) digitNine (omega arith),
     )
 
 mul-result : tie.Need-mul-result
@@ -60,11 +61,11 @@ unfolding twoBytes isDigit
 returns-6 c =
     let a = c .before .before .before .before .before .args in
     rw (
-      ne-eqb (a .b) 43 (λ e. omega arith),
-      le-leb 48 (a .b) (omega arith),
-      le-leb (a .b) 57 (omega arith),
-      le-leb 48 (a .e) (omega arith),
-      le-leb (a .e) 57 (omega arith),
+      ne-eqb (a .b) plus (λ e. omega arith),
+      le-leb digitZero (a .b) (omega arith),
+      le-leb (a .b) digitNine (omega arith),
+      le-leb digitZero (a .e) (omega arith),
+      le-leb (a .e) digitNine (omega arith),
     )
 
 pub two-bytes-spec : {M : Type 1} → statement M
