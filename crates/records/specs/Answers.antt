@@ -1,19 +1,31 @@
--- Whether an answer is the recorded one.
-use mathlib.Core.Bool.{Bool, false}
-use Prim.Native.Nat.{ℕ}
-use lib.Dec.{eqb}
+-- The word of an answer: the number of the refusal in the high half, or the value.
+use mathlib.Core.Bool.{cond}
+use Prim.Native.Nat.{ℕ, _*_}
 use Rattle.rules.specs.Numbers.{colourNo}
 use Rattle.rules.specs.declared.answer.NumberAnswer.{NumberAnswer}
 use Rattle.rules.specs.declared.answer.NumberAnswer.the-variants as number
+use Rattle.rules.specs.declared.answer.MaskAnswer.{MaskAnswer}
+use Rattle.rules.specs.declared.answer.MaskAnswer.the-variants as mask
+use Rattle.rules.specs.declared.answer.TestAnswer.{TestAnswer}
+use Rattle.rules.specs.declared.answer.TestAnswer.the-variants as test
 use Rattle.rules.specs.declared.answer.StoneAnswer.{StoneAnswer}
 use Rattle.rules.specs.declared.answer.StoneAnswer.the-variants as stone
 
-unfoldable pub numberIs : NumberAnswer → ℕ → Bool
-numberIs (number.Is n) recorded = eqb n recorded
-numberIs (number.Refused n) recorded = false
+unfoldable pub numberWord : NumberAnswer → ℕ
+numberWord (number.Is n) = n
+numberWord (number.Refused n) = n * 65536
+
+unfoldable pub maskWord : MaskAnswer → ℕ
+maskWord (mask.Is m) = m
+maskWord (mask.Refused n) = n * 65536
+
+-- 1 where the test passes, 0 where it fails
+unfoldable pub testWord : TestAnswer → ℕ
+testWord (test.Is passed) = cond passed 1 0
+testWord (test.Refused n) = n * 65536
 
 -- the colour of the stone, 0 where the cell is empty
-unfoldable pub stoneIs : StoneAnswer → ℕ → Bool
-stoneIs stone.Empty colour = eqb colour 0
-stoneIs (stone.Is player) colour = eqb (colourNo player) colour
-stoneIs (stone.Refused n) colour = false
+unfoldable pub stoneWord : StoneAnswer → ℕ
+stoneWord stone.Empty = 0
+stoneWord (stone.Is player) = colourNo player
+stoneWord (stone.Refused n) = n * 65536

@@ -1,27 +1,32 @@
 -- What a replay counts.
 use mathlib.Core.Bool.{Bool, cond}
-use Prim.Native.Nat.{ℕ, _+_, min}
-use lib.Dec.{eqb, leb}
-use Rattle.records.specs.declared.tally.Tally.{Tally}
+use mathlib.Core.List.{List}
+use Prim.Native.Nat.{ℕ, _+_, _*_, _/_, _%_, min}
+use lib.Dec.{eqb, ltb}
+use lib.ListN.{getD, set}
+use Rattle.records.specs.Records.{placeFrom}
+
+-- the answers of a record in one number: those compared in its low half, those that differ in its high half
+unfoldable pub afterAnswer : ℕ → Bool → ℕ
+afterAnswer t agrees = cond (ltb 4294836224 t) t (t + cond agrees 1 65537)
 
 -- a count does not wrap: it stays at the largest number
 abbrev pub total : ℕ → ℕ → ℕ
 total a b = min (a + b) 18446744073709551615
 
-abbrev pub nothing : Tally
-nothing = record { records = 0; answers = 0; differ = 0; shown = 0 }
+-- there are 64 counts
+unfoldable pub added : List ℕ → ℕ → ℕ → List ℕ
+added counts at n = cond (ltb at 64) (set counts at (total (getD counts at 0) n)) counts
 
-abbrev pub afterRecord : Tally → Tally
-afterRecord t = record { records = total (t .records) 1; answers = t .answers; differ = t .differ; shown = t .shown }
+-- where the four counts of a letter stand; what is no letter of a record has the last four
+abbrev pub rowOf : List ℕ → ℕ → ℕ
+rowOf letters letter = 4 * min (placeFrom letters 0 letter) 15
 
--- an answer agrees or differs
-abbrev pub afterAnswer : Tally → Bool → Tally
-afterAnswer t agrees =
-    record { records = t .records; answers = total (t .answers) 1; differ = total (t .differ) (cond agrees 0 1); shown = t .shown }
+-- records, answers, answers that differ, records with such a one
+unfoldable pub counted : List ℕ → ℕ → ℕ → List ℕ
+counted counts row t =
+    added (added (added (added counts row 1) (row + 1) (t % 65536)) (row + 2) (t / 65536)) (row + 3) (min (t / 65536) 1)
 
-abbrev pub afterShow : Tally → Tally
-afterShow t = record { records = t .records; answers = t .answers; differ = t .differ; shown = total (t .shown) 1 }
-
--- a record is shown where it differs, three of them at the most
-unfoldable pub afterShown : Tally → Tally → Tally
-afterShown before after = cond (eqb (after .differ) (before .differ)) after (cond (leb 3 (after .shown)) after (afterShow after))
+-- a comment, byte 35, is no record
+unfoldable pub afterRecord : List ℕ → List ℕ → ℕ → ℕ → List ℕ
+afterRecord counts letters letter t = cond (eqb letter 35) counts (counted counts (rowOf letters letter) t)

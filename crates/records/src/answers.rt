@@ -1,33 +1,54 @@
-// Whether an answer is the recorded one, which a refusal never is; and the word of a refusal.
+// The word of an answer, as a host function gives it: the number of the refusal in the high half, or, where there is none, the value.
+use rules::MaskAnswer;
 use rules::NumberAnswer;
 use rules::StoneAnswer;
+use rules::TestAnswer;
 ghost use mathlib.Core.Path.{_≡_};
 ghost use Prim.Native.Nat.{_*_};
-ghost use Rattle.records.specs.Answers.{numberIs, stoneIs};
+ghost use Rattle.records.specs.Answers.{numberWord, maskWord, testWord, stoneWord};
 
-pub fn number_is(answer: NumberAnswer, recorded: u8) -> bool
-    ensures { λ r. ⌜ r ≡ numberIs answer recorded ⌝ }
-{
-    match answer {
-        NumberAnswer::Is(n) => n == recorded,
-        NumberAnswer::Refused(_) => false,
-    }
-}
-
-// The colour of the stone, 0 where the cell is empty.
-pub fn stone_is(answer: StoneAnswer, colour: u8) -> bool
-    ensures { λ r. ⌜ r ≡ stoneIs answer colour ⌝ }
-{
-    match answer {
-        StoneAnswer::Empty => colour == 0,
-        StoneAnswer::Is(player) => player.number() == colour,
-        StoneAnswer::Refused(_) => false,
-    }
-}
-
-// What a host function answers for a refusal; for none, 0, the word of the answer 0.
+// The word of a refusal; for none, 0, the word of the answer 0.
 pub fn refusal_word(number: u8) -> u32
     ensures { λ r. ⌜ r ≡ number * 65536 ⌝ }
 {
     number as u32 * 65536
+}
+
+pub fn number_word(answer: NumberAnswer) -> u32
+    ensures { λ r. ⌜ r ≡ numberWord answer ⌝ }
+{
+    match answer {
+        NumberAnswer::Is(n) => n as u32,
+        NumberAnswer::Refused(n) => refusal_word(n),
+    }
+}
+
+pub fn mask_word(answer: MaskAnswer) -> u32
+    ensures { λ r. ⌜ r ≡ maskWord answer ⌝ }
+{
+    match answer {
+        MaskAnswer::Is(mask) => mask as u32,
+        MaskAnswer::Refused(n) => refusal_word(n),
+    }
+}
+
+// 1 where the test passes, 0 where it fails.
+pub fn test_word(answer: TestAnswer) -> u32
+    ensures { λ r. ⌜ r ≡ testWord answer ⌝ }
+{
+    match answer {
+        TestAnswer::Is(passed) => { if passed { 1 } else { 0 } }
+        TestAnswer::Refused(n) => refusal_word(n),
+    }
+}
+
+// The colour of the stone, 0 where the cell is empty.
+pub fn stone_word(answer: StoneAnswer) -> u32
+    ensures { λ r. ⌜ r ≡ stoneWord answer ⌝ }
+{
+    match answer {
+        StoneAnswer::Empty => 0,
+        StoneAnswer::Is(player) => player.number() as u32,
+        StoneAnswer::Refused(n) => refusal_word(n),
+    }
 }

@@ -1,20 +1,31 @@
 // Recorded answers: their lines and fields, read from bytes, and what a replay of them counts and writes. Past the end every byte counts
 // as 0.
 mod answers;
+mod bytes;
+mod input;
 mod report;
 mod tally;
 
-pub use answers::number_is;
+pub use answers::mask_word;
+pub use answers::number_word;
 pub use answers::refusal_word;
-pub use answers::stone_is;
-pub use report::say_end;
-pub use report::say_tally;
-pub use report::shown;
-pub use tally::Tally;
+pub use answers::stone_word;
+pub use answers::test_word;
+pub use bytes::bytes_in;
+pub use bytes::bytes_of;
+pub use bytes::cells_of;
+pub use bytes::has_form;
+pub use bytes::holds;
+pub use bytes::with_cell;
+pub use input::read_records;
+pub use input::room;
+pub use report::say_counts;
+pub use tally::answer;
+pub use tally::count;
 ghost use mathlib.Core.Path.{_≡_};
 ghost use Prim.Native.Nat.{_+_, _≤_, min};
 ghost use lib.Count.{ones};
-ghost use Rattle.records.specs.Records.{byteAt, digitOf, hexOf, lineEnd, lineAt};
+ghost use Rattle.records.specs.Records.{byteAt, digitOf, hexOf, placeFrom, lineEnd, lineAt};
 
 pub fn byte_at(s: &[u8], i: usize) -> u8
     ensures { λ r. ⌜ r ≡ byteAt (now (s .entry)) i ⌝ }
@@ -43,18 +54,24 @@ pub fn byte(s: &[u8], at: usize) -> u8
     hex(s, at, 2) as u8
 }
 
-// The place of the first byte 10 at or after `from`, or the length.
-pub fn line_end(s: &[u8], from: usize) -> usize
-    ensures { λ r. ⌜ r ≡ lineEnd (now (s .entry)) from ⌝ }
+// The place of the first byte d at or after `from`, or the length.
+pub fn find_from(s: &[u8], from: usize, d: u8) -> usize
+    ensures { λ r. ⌜ r ≡ placeFrom (now (s .entry)) from d ⌝ }
 {
     let mut i = from;
     while i < s.len() {
-        if s[i] == b'\n' {
+        if s[i] == d {
             return i;
         }
         i += 1;
     }
     s.len()
+}
+
+fn line_end(s: &[u8], from: usize) -> usize
+    ensures { λ r. ⌜ r ≡ lineEnd (now (s .entry)) from ⌝ }
+{
+    find_from(s, from, b'\n')
 }
 
 // The bytes from a place to the end of its line.

@@ -1,9 +1,8 @@
-// What a replay writes: a line for each letter of record, below the first of its records that differ, and at last whether all agree.
-use super::tally::Tally;
+// What a replay writes: the first records that differ, then a line for each letter, and at last whether all agree.
+use super::byte_at;
 use super::tally::sum;
 use libc::STDOUT_FILENO;
-ghost use mathlib.Core.Path.{_≡_};
-ghost use Rattle.records.specs.Tallies.{total, afterShown};
+ghost use Prim.Native.Nat.{_<_};
 
 fn say(words: &[u8]) {
     io::write_all(STDOUT_FILENO, words);
@@ -13,46 +12,48 @@ fn say_number(n: u64) {
     io::print_decimal(STDOUT_FILENO, n);
 }
 
-// The tally after a record, which is written where it differs and fewer than three were.
-pub fn shown(before: Tally, after: Tally, record: &[u8]) -> Tally
-    ensures { λ r. ⌜ r ≡ afterShown before after ⌝ }
-{
-    if after.differ == before.differ {
-        return after;
+// A record of which some answers differ, where fewer than three such were written before.
+pub(crate) fn show(record: &[u8], differ: u32, before: u64) {
+    if differ == 0 {
+        return;
     }
-    if 3 <= after.shown {
-        return after;
+    if before < 3 {
+        say(record);
+        say(b"\n");
     }
-    say(record);
-    say(b"\n");
-    after.show()
 }
 
-// The line of a letter, and how many answers differ with those before.
-pub fn say_tally(differ: u64, letter: u8, t: Tally) -> u64
-    ensures { λ r. ⌜ r ≡ total differ (t .differ) ⌝ }
-{
-    say(&[letter, b' ']);
-    say_number(t.records);
-    say(b" records ");
-    say_number(t.answers);
-    say(b" answers ");
-    say_number(t.differ);
-    say(b" differ\n");
-    sum(differ, t.differ)
-}
-
-// The last line, and before it one for what is no record, where there is some. How many answers differ in all.
-pub fn say_end(differ: u64, unread: Tally) -> u64
-    ensures { λ r. ⌜ r ≡ total differ (unread .differ) ⌝ }
-{
-    if unread.records != 0 {
-        say_number(unread.records);
+// The lines of the letters, of which there are 15 at the most; one for what is no record, where there is some; and the last line.
+pub fn say_counts(letters: &[u8], counts: &[u64; 64]) {
+    let mut differ = counts[62];
+    let mut k = 0u8;
+    while k < 15 {
+        differ = say_row(differ, byte_at(letters, k as usize), counts, k);
+        k += 1;
+    }
+    if counts[60] != 0 {
+        say_number(counts[60]);
         say(b" lines are no records\n");
     }
-    let all = sum(differ, unread.differ);
-    say_verdict(all);
-    all
+    say_verdict(differ);
+}
+
+// The line of a letter, which is 0 past the last, and how many answers differ with those before.
+fn say_row(differ: u64, letter: u8, counts: &[u64; 64], k: u8) -> u64
+    requires { ⌜ k < 15 ⌝ }
+{
+    if letter == 0 {
+        return differ;
+    }
+    let row = 4 * k as usize;
+    say(&[letter, b' ']);
+    say_number(counts[row]);
+    say(b" records ");
+    say_number(counts[row + 1]);
+    say(b" answers ");
+    say_number(counts[row + 2]);
+    say(b" differ\n");
+    sum(differ, counts[row + 2])
 }
 
 fn say_verdict(differ: u64) {

@@ -1,62 +1,61 @@
-// What a replay counts.
+// What a replay counts: the answers of a record, and for each letter its records.
+use super::byte_at;
+use super::find_from;
+use super::report::show;
 ghost use mathlib.Core.Path.{_≡_};
-ghost use mathlib.Core.Bool.{cond};
-ghost use Rattle.records.specs.Tallies.{total, nothing, afterRecord, afterAnswer, afterShow};
+ghost use Prim.Native.Nat.{_+_, _*_, min};
+ghost use lib.ListN.{getD};
+ghost use Rattle.records.specs.Records.{byteAt};
+ghost use Rattle.records.specs.Tallies.{total, afterAnswer, added, afterRecord, rowOf};
 
-// How many records were replayed, how many answers were compared, how many of those differ, and how many records were shown for it.
-pub struct Tally {
-    pub records: u64,
-    pub answers: u64,
-    pub differ: u64,
-    pub shown: u64,
+// The answers of a record are counted in one number: those that were compared in its low half, those of them that differ in its high half.
+// No record has 65,536.
+pub fn answer(t: u32, agrees: bool) -> u32
+    ensures { λ r. ⌜ r ≡ afterAnswer t agrees ⌝ }
+{
+    if 4294836224 < t {
+        return t;
+    }
+    if agrees { t + 1 } else { t + 65537 }
 }
 
-impl Tally {
-    pub fn new() -> Tally
-        ensures { λ r. ⌜ r ≡ nothing ⌝ }
-    {
-        Tally {
-            records: 0,
-            answers: 0,
-            differ: 0,
-            shown: 0,
-        }
+// One record more, with its answers, in the row of its letter: how many records, answers and answers that differ there are, and how many
+// records with such a one, of which the first three are written. A comment is no record.
+pub fn count(counts: &mut [u64; 64], letters: &[u8], record: &[u8], t: u32)
+    ensures { λ _. ⌜ now (counts .exit) ≡ afterRecord (now (counts .entry)) (now (letters .entry)) (byteAt (now («record» .entry)) 0) t ⌝ }
+{
+    let letter = byte_at(record, 0);
+    if letter == b'#' {
+        return;
     }
+    let row = row_of(letters, letter);
+    let differ = t / 65536;
+    show(record, differ, counts[row + 3]);
+    add(counts, row, 1);
+    add(counts, row + 1, (t % 65536) as u64);
+    add(counts, row + 2, differ as u64);
+    add(counts, row + 3, at_most_one(differ));
+}
 
-    // One record more.
-    pub fn record(self) -> Tally
-        ensures { λ r. ⌜ r ≡ afterRecord self ⌝ }
-    {
-        Tally {
-            records: sum(self.records, 1),
-            answers: self.answers,
-            differ: self.differ,
-            shown: self.shown,
-        }
-    }
+// Where the four counts of a letter stand. What is no letter of a record has the last four.
+fn row_of(letters: &[u8], letter: u8) -> usize
+    ensures { λ r. ⌜ r ≡ rowOf (now (letters .entry)) letter ⌝ }
+{
+    let k = find_from(letters, 0, letter);
+    if k < 15 { 4 * k } else { 60 }
+}
 
-    // One answer more, which is the recorded one or differs.
-    pub fn answer(self, agrees: bool) -> Tally
-        ensures { λ r. ⌜ r ≡ afterAnswer self agrees ⌝ }
-    {
-        Tally {
-            records: self.records,
-            answers: sum(self.answers, 1),
-            differ: sum(self.differ, unless(agrees)),
-            shown: self.shown,
-        }
-    }
+fn at_most_one(n: u32) -> u64
+    ensures { λ r. ⌜ r ≡ min n 1 ⌝ }
+{
+    if n == 0 { 0 } else { 1 }
+}
 
-    // One record more that was shown.
-    pub fn show(self) -> Tally
-        ensures { λ r. ⌜ r ≡ afterShow self ⌝ }
-    {
-        Tally {
-            records: self.records,
-            answers: self.answers,
-            differ: self.differ,
-            shown: sum(self.shown, 1),
-        }
+fn add(counts: &mut [u64; 64], at: usize, n: u64)
+    ensures { λ _. ⌜ now (counts .exit) ≡ added (now (counts .entry)) at n ⌝ }
+{
+    if at < 64 {
+        counts[at] = sum(counts[at], n);
     }
 }
 
@@ -65,10 +64,4 @@ pub(crate) fn sum(a: u64, b: u64) -> u64
     ensures { λ r. ⌜ r ≡ total a b ⌝ }
 {
     if a <= u64::MAX - b { a + b } else { u64::MAX }
-}
-
-fn unless(agrees: bool) -> u64
-    ensures { λ r. ⌜ r ≡ cond agrees 0 1 ⌝ }
-{
-    if agrees { 0 } else { 1 }
 }

@@ -1,28 +1,25 @@
 // The record that opens a block: the board built from its cells, read, turned and changed.
-use super::cells::cells_of;
-use super::cells::page_of;
-use super::cells::same;
 use super::changes::replay_changes;
 use super::views::replay_views;
 use board::Board;
 use board::BoardAnswer;
 use host::renju_stones;
-use records::Tally;
-use records::number_is;
-use records::stone_is;
-use text::head;
+use lent::head;
+use records::answer;
+use records::holds;
+use records::number_word;
+use records::stone_word;
 
 // `b`: all that is asked of the board must be as its cells say.
-pub(crate) fn replay_board(t: Tally, record: &[u8]) -> Tally {
-    let cells = cells_of(record);
+pub(crate) fn replay_board(cells: [u8; 225]) -> u32 {
     let made = Board::from_cells(&cells);
     if made.refused != 0 {
-        return t.answer(false);
+        return answer(0, false);
     }
-    let built = t.answer(is_board(made, cells))
-        .answer(is_board(rebuilt(&cells), cells));
-    let read = replay_stones(built, made.board, cells);
-    replay_changes(replay_views(read, cells), cells)
+    let mut t = answer(0, is_board(made, &cells));
+    t = answer(t, is_board(rebuilt(&cells), &cells));
+    t = replay_stones(t, made.board, cells);
+    replay_changes(replay_views(t, cells), cells)
 }
 
 // The board made anew from its stones, which are listed.
@@ -35,22 +32,24 @@ fn rebuilt(cells: &[u8]) -> BoardAnswer {
 }
 
 // Whether a board was given, and has these cells.
-fn is_board(answer: BoardAnswer, cells: [u8; 225]) -> bool {
-    if answer.refused != 0 {
-        return false;
-    }
-    let board = answer.board;
-    let mut page = [255u8; 3200];
-    let count = board.to_cells(&mut page);
-    number_is(count, 225) & same(&page, &page_of(cells))
+fn is_board(told: BoardAnswer, cells: &[u8]) -> bool {
+    let mut page = [255u8; 300];
+    let count = told.board.to_cells(&mut page);
+    (told.refused == 0) & (number_word(count) == 225) & is_page(&page, cells)
 }
 
-fn replay_stones(before: Tally, board: Board, cells: [u8; 225]) -> Tally {
+// The reference to an array gives its length, which the array itself has lost once it was lent.
+fn is_page(page: &[u8; 300], wanted: &[u8]) -> bool {
+    holds(page, wanted)
+}
+
+fn replay_stones(before: u32, board: Board, cells: [u8; 225]) -> u32 {
     let mut t = before;
-    let mut code = 0u8;
-    while code < 225 {
-        t = t.answer(stone_is(board.stone(code), cells[code as usize]));
-        code += 1;
+    for code in 0u8..225 {
+        t = answer(
+            t,
+            stone_word(board.stone(code)) == cells[code as usize] as u32,
+        );
     }
     t
 }

@@ -8,13 +8,13 @@ use records::count_bits;
 ghost use Prim.Native.Nat.{_≤_};
 
 // `o`: each listed row starts where the mask of its direction says, and there are as many starts as rows.
-pub(crate) fn has_starts(cells: [u8; 225], record: &[u8]) -> bool {
-    let made = Board::from_cells(&cells);
+pub(crate) fn has_starts(cells: &[u8], record: &[u8]) -> bool {
+    let made = Board::from_cells(cells);
+    let answer = made.board
+        .row_starts_on(byte(record, 2), byte(record, 5), byte(record, 8));
     if made.refused != 0 {
         return false;
     }
-    let answer = made.board
-        .row_starts_on(byte(record, 2), byte(record, 5), byte(record, 8));
     if answer.refused != 0 {
         return false;
     }

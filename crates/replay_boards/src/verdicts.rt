@@ -1,36 +1,38 @@
 // Records that hold a verdict for every point: `s` the strict ones, `p` the plain ones.
-use super::cells::cells_of;
-use super::cells::with_cell;
 use board::Board;
 use host::renju_forbidden;
 use host::renju_forbidden_strict;
-use records::Tally;
+use lent::head;
+use records::answer;
 use records::byte_at;
 use records::refusal_word;
-use referee::VerdictAnswer;
+use records::test_word;
+use records::with_cell;
 use referee::forbidden_strict;
 use referee::is_double_three;
-use rules::TestAnswer;
-use text::head;
+use rules::VerdictAnswer;
 
-// The verdict of every code. Cells that are no board's are refused, before a code is. The board by value is asked too, which is lent to the
-// referee: for its strict verdicts, and beside the plain ones whether a double three is there, asked alone.
-pub(crate) fn replay_verdicts(t: Tally, block: &[u8], record: &[u8]) -> Tally {
-    let cells = cells_of(block);
-    let spoilt = with_cell(cells, 224, 3);
+// Cells that are no board's are refused, before a code is. The board by value is asked too, which is lent to the referee: for its strict
+// verdicts, and beside the plain ones whether a double three is there, asked alone.
+pub(crate) fn replay_verdicts(cells: [u8; 225], record: &[u8]) -> u32 {
+    let made = Board::from_cells(&cells);
     if record.len() != 227 {
-        return t.answer(false);
+        return answer(0, false);
     }
-    let asked = replay_codes(t, &cells, record)
-        .answer(ask(&spoilt, record, 0) == refusal_word(9))
-        .answer(ask(head(&cells, 224), record, 225) == refusal_word(9));
-    replay_by_value(asked, &cells, record)
+    if made.refused != 0 {
+        return answer(0, false);
+    }
+    let spoilt = with_cell(cells, 224, 3);
+    let mut t = answer(0, ask(&spoilt, record, 0) == refusal_word(9));
+    t = answer(t, ask(head(&cells, 224), record, 225) == refusal_word(9));
+    replay_codes(t, made.board, &cells, record)
 }
 
-fn replay_codes(before: Tally, cells: &[u8], record: &[u8]) -> Tally {
+fn replay_codes(before: u32, board: Board, cells: &[u8], record: &[u8]) -> u32 {
     let mut t = before;
     for code in 0u8..=255 {
-        t = t.answer(ask(cells, record, code) == word_at(record, code));
+        t = answer(t, ask(cells, record, code) == word_at(record, code));
+        t = replay_point(t, board, record, code);
     }
     t
 }
@@ -59,25 +61,15 @@ fn word_at(record: &[u8], code: u8) -> u32 {
     }
 }
 
-// What is asked of the board by value at every point.
-fn replay_by_value(before: Tally, cells: &[u8], record: &[u8]) -> Tally {
-    let made = Board::from_cells(cells);
-    if made.refused != 0 {
-        return before.answer(false);
+// What is asked of the board by value at a point.
+fn replay_point(t: u32, board: Board, record: &[u8], code: u8) -> u32 {
+    if 224 < code {
+        return t;
     }
-    let board = made.board;
-    let mut t = before;
-    for code in 0u8..225 {
-        t = replay_point(t, board, record, code);
-    }
-    t
-}
-
-fn replay_point(t: Tally, board: Board, record: &[u8], code: u8) -> Tally {
     let word = word_at(record, code);
     match byte_at(record, 0) {
-        b's' => t.answer(verdict_word(forbidden_strict(board, code)) == word),
-        _ => replay_double(t, is_double_three(board, code), word),
+        b's' => answer(t, verdict_word(forbidden_strict(board, code)) == word),
+        _ => replay_double(t, test_word(is_double_three(board, code)), word),
     }
 }
 
@@ -89,17 +81,10 @@ fn verdict_word(answer: VerdictAnswer) -> u32 {
 }
 
 // Where the plain verdict is a double three, it is one; where it is none, or a stone is there, not. A kind that comes before hides it.
-fn replay_double(t: Tally, answer: TestAnswer, verdict: u32) -> Tally {
+fn replay_double(t: u32, told: u32, verdict: u32) -> u32 {
     match verdict {
-        1 => t.answer(is_test(answer, true)),
+        1 => answer(t, told == 1),
         2 | 3 => t,
-        _ => t.answer(is_test(answer, false)),
-    }
-}
-
-fn is_test(answer: TestAnswer, passed: bool) -> bool {
-    match answer {
-        TestAnswer::Is(b) => b == passed,
-        TestAnswer::Refused(_) => false,
+        _ => answer(t, told == 0),
     }
 }

@@ -1,67 +1,47 @@
 // The eight views of a board, held to those of its points.
-use super::asked::Question;
 use super::asked::answers;
 use super::asked::refuses;
 use super::asked::replay_room;
 use super::asked::replay_unsound;
-use super::cells::page_of;
 use host::renju_turn_point;
+use lent::head;
 use point::undone;
-use records::Tally;
-use text::head;
+use records::answer;
 ghost use mathlib.Core.Path.{_≡_};
 ghost use Prim.Native.Nat.{_≤_};
 ghost use lib.ListN.{length};
 
 // The eight views, and one that is none.
-pub(crate) fn replay_views(before: Tally, cells: [u8; 225]) -> Tally {
-    let mut t = before.answer(refuses(&cells, turn(8), 225, 12));
-    let mut view = 0u8;
-    while view < 8 {
-        t = replay_view(t, view, cells);
-        view += 1;
+pub(crate) fn replay_views(before: u32, cells: [u8; 225]) -> u32 {
+    let mut t = answer(before, refuses(&cells, &[b'v', 8], 225, 12));
+    for view in 0u8..8 {
+        t = replay_view(t, cells, view);
     }
     t
 }
 
-fn turn(view: u8) -> Question {
-    Question {
-        letter: b'v',
-        a: view,
-        b: 0,
-        c: 0,
-    }
-}
-
 // Each stone where the view sends its point; and turned back.
-fn replay_view(t: Tally, view: u8, cells: [u8; 225]) -> Tally {
-    let turned = sent(cells, view);
-    let back = page_of(cells);
-    let asked = replay_room(t, &cells, turn(view), 225, 225, &turned);
-    replay_unsound(asked, cells, turn(view)).answer(answers(
-        head(&turned, 225),
-        turn(undone(view)),
-        225,
-        225,
-        &back,
-    ))
+fn replay_view(before: u32, cells: [u8; 225], view: u8) -> u32 {
+    let page = sent(cells, view);
+    let turned = head(&page, 225);
+    let q = [b'v', view];
+    let t = replay_unsound(replay_room(before, &cells, &q, 225, turned), cells, &q);
+    answer(t, answers(turned, &[b'v', undone(view)], 225, 225, &cells))
 }
 
-// A page with each cell where the view sends its point.
-fn sent(cells: [u8; 225], view: u8) -> [u8; 3200]
-    ensures { λ r. ⌜ 3200 ≡ length r ⌝ }
+// The cells, each where the view sends its point, and a byte behind them.
+fn sent(cells: [u8; 225], view: u8) -> [u8; 226]
+    ensures { λ r. ⌜ 226 ≡ length r ⌝ }
 {
-    let mut page = [255u8; 3200];
-    let mut code = 0u8;
-    while code < 225 {
+    let mut page = [255u8; 226];
+    for code in 0u8..225 {
         let to = place_of(renju_turn_point(code, view));
         page[to] = cells[code as usize];
-        code += 1;
     }
     page
 }
 
-// A refusal's place is behind the cells, where no view writes.
+// A refusal's place is behind the cells.
 fn place_of(word: u32) -> usize
     ensures { λ r. ⌜ r ≤ 225 ⌝ }
 {

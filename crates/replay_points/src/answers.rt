@@ -1,87 +1,55 @@
-// Whether an answer is the recorded one, which a refusal never is; and whether it is a certain refusal.
-use point::Index;
+// The word of an answer about points, lines and keys; and an address.
 use point::IndexAnswer;
 use point::KeyAnswer;
 use point::OffsetAnswer;
+use point::Place;
 use point::PointAnswer;
-use records::number_is;
-use rules::NumberAnswer;
+use records::number_word;
+use records::refusal_word;
 
-fn is_index(index: Index, d: u8, i: u8, j: u8) -> bool {
-    if index.d != d {
-        return false;
-    }
-    if index.i != i {
-        return false;
-    }
-    index.j == j
+// An index as a number that is no refusal's word: its direction, its line and its cell have a byte each, and 1 stands before them.
+pub(crate) fn word_at(d: u8, i: u8, j: u8) -> u32 {
+    16777216 + d as u32 * 65536 + i as u32 * 256 + j as u32
 }
 
-pub(crate) fn index_is(answer: IndexAnswer, d: u8, i: u8, j: u8) -> bool {
+pub(crate) fn index_word(answer: IndexAnswer) -> u32 {
     match answer {
-        IndexAnswer::Is(index) => is_index(index, d, i, j),
-        IndexAnswer::Refused(_) => false,
+        IndexAnswer::Is(index) => word_at(index.d, index.i, index.j),
+        IndexAnswer::Refused(n) => refusal_word(n),
     }
 }
 
-pub(crate) fn index_refused(answer: IndexAnswer, number: u8) -> bool {
+// 255 where there is no such cell.
+pub(crate) fn offset_word(answer: OffsetAnswer) -> u32 {
     match answer {
-        IndexAnswer::Is(_) => false,
-        IndexAnswer::Refused(n) => n == number,
+        OffsetAnswer::None => 255,
+        OffsetAnswer::Is(index) => word_at(index.d, index.i, index.j),
+        OffsetAnswer::Refused(n) => refusal_word(n),
     }
 }
 
-pub(crate) fn offset_is(answer: OffsetAnswer, d: u8, i: u8, j: u8) -> bool {
+// The code of the point.
+pub(crate) fn point_word(answer: PointAnswer) -> u32 {
     match answer {
-        OffsetAnswer::None => false,
-        OffsetAnswer::Is(index) => is_index(index, d, i, j),
-        OffsetAnswer::Refused(_) => false,
-    }
-}
-
-pub(crate) fn offset_none(answer: OffsetAnswer) -> bool {
-    match answer {
-        OffsetAnswer::None => true,
-        OffsetAnswer::Is(_) => false,
-        OffsetAnswer::Refused(_) => false,
-    }
-}
-
-// The point whose code is recorded.
-pub(crate) fn point_is(answer: PointAnswer, code: u8) -> bool {
-    match answer {
-        PointAnswer::Is(point) => number_is(point.code(), code),
-        PointAnswer::Refused(_) => false,
-    }
-}
-
-pub(crate) fn point_refused(answer: PointAnswer, number: u8) -> bool {
-    match answer {
-        PointAnswer::Is(_) => false,
-        PointAnswer::Refused(n) => n == number,
+        PointAnswer::Is(point) => number_word(point.code()),
+        PointAnswer::Refused(n) => refusal_word(n),
     }
 }
 
 // No key is recorded as 255.
-pub(crate) fn key_is(answer: KeyAnswer, key: u8) -> bool {
+pub(crate) fn key_word(answer: KeyAnswer) -> u32 {
     match answer {
-        KeyAnswer::None => key == 255,
-        KeyAnswer::Is(k) => k == key,
-        KeyAnswer::Refused(_) => false,
+        KeyAnswer::None => 255,
+        KeyAnswer::Is(key) => key as u32,
+        KeyAnswer::Refused(n) => refusal_word(n),
     }
 }
 
-pub(crate) fn key_refused(answer: KeyAnswer, number: u8) -> bool {
-    match answer {
-        KeyAnswer::None => false,
-        KeyAnswer::Is(_) => false,
-        KeyAnswer::Refused(n) => n == number,
-    }
-}
-
-pub(crate) fn number_refused(answer: NumberAnswer, number: u8) -> bool {
-    match answer {
-        NumberAnswer::Is(_) => false,
-        NumberAnswer::Refused(n) => n == number,
+// The address where its line is stored, which is recorded by the key.
+pub(crate) fn place_is(place: Place, key: u8, cell: u8) -> bool {
+    if place.stored {
+        (place.key == key) & (place.cell == cell)
+    } else {
+        key == 255
     }
 }

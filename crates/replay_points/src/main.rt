@@ -3,73 +3,46 @@
 mod answers;
 mod points;
 
-use libc::STDIN_FILENO;
-use libc::STDOUT_FILENO;
 use points::replay_address;
 use points::replay_cell;
 use points::replay_key;
-use records::Tally;
+use records::answer;
 use records::byte_at;
+use records::count;
 use records::line_at;
 use records::next_line;
-use records::say_end;
-use records::say_tally;
-use records::shown;
+use records::read_records;
+use records::room;
+use records::say_counts;
 
 fn main() {
-    let mut text = io::large_buffer();
-    let n = io::read_full(STDIN_FILENO, &mut text);
-    if n == text.len() {
-        io::write_all(STDOUT_FILENO, b"more than there is room for\n");
-        return;
-    }
-    report(&text[..n]);
+    let mut text = room();
+    let n = read_records(&mut text);
+    replay_all(&text[..n]);
 }
 
-fn report(text: &[u8]) {
-    let mut differ = say_tally(0, b'a', replay_letter(text, b'a'));
-    differ = say_tally(differ, b'v', replay_letter(text, b'v'));
-    differ = say_tally(differ, b'w', replay_letter(text, b'w'));
-    say_end(differ, replay_letter(text, b'?'));
-}
-
-fn replay_letter(text: &[u8], letter: u8) -> Tally {
-    let mut t = Tally::new();
+fn replay_all(text: &[u8]) {
+    let mut counts = [0u64; 64];
     let mut at = 0;
     while at < text.len() {
-        t = replay_record(t, line_at(text, at), letter);
+        let record = line_at(text, at);
+        count(&mut counts, b"avw", record, replay(record));
         at = next_line(text, at);
     }
-    t
-}
-
-// A record of another letter is passed over.
-fn replay_record(t: Tally, record: &[u8], letter: u8) -> Tally {
-    if letter_of(record) != letter {
-        return t;
-    }
-    shown(t, replay(t.record(), record, letter), record)
+    say_counts(b"avw", &counts);
 }
 
 // A record that is not as long as its letter's are is not read, and differs.
-fn replay(t: Tally, record: &[u8], letter: u8) -> Tally {
-    if record.len() != width_of(letter) {
-        return t.answer(false);
-    }
-    match letter {
-        b'a' => replay_address(t, record),
-        b'v' => replay_key(t, record),
-        b'w' => replay_cell(t, record),
-        _ => t.answer(false),
-    }
-}
-
-// `#` starts a comment; `?` stands for what is no letter of a record.
-fn letter_of(record: &[u8]) -> u8 {
+fn replay(record: &[u8]) -> u32 {
     let letter = byte_at(record, 0);
+    if record.len() != width_of(letter) {
+        return answer(0, false);
+    }
     match letter {
-        b'#' | b'a' | b'v' | b'w' => letter,
-        _ => b'?',
+        b'a' => replay_address(record),
+        b'v' => replay_key(record),
+        b'w' => replay_cell(record),
+        _ => answer(0, false),
     }
 }
 

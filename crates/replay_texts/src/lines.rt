@@ -1,51 +1,58 @@
 // Records about lines and segments as text: `i` a text that is read, `I` a line that is written, `g` a segment.
-use super::bytes::agrees;
-use super::bytes::bytes_in;
-use super::bytes::bytes_of;
 use super::fields::rest_of;
 use super::fields::text_in;
 use super::words::is_told;
 use super::words::length_word;
+use super::words::starts_with;
 use super::writing::replay_room;
 use super::writing::writes;
 use display::write_line;
 use display::write_segment;
+use lent::head;
+use lent::tail;
 use line::Line;
 use line::LineAnswer;
-use records::Tally;
+use records::answer;
 use records::byte;
+use records::bytes_in;
+use records::bytes_of;
 use records::hex;
 use segment::Segment;
-use text::head;
 use text::read_line;
-use text::tail;
 
 // `i`: the line is recorded, or ff for too long a text.
-pub(crate) fn replay_read_line(t: Tally, record: &[u8]) -> Tally {
-    t.answer(is_line(line_in(text_in(record)), line_of(rest_of(record))))
+pub(crate) fn replay_read_line(record: &[u8]) -> u32 {
+    answer(
+        0,
+        is_line(line_in(text_in(record)), line_of(rest_of(record))),
+    )
 }
 
 // `I`: the text is recorded; read, it gives the line back. The original writes lines of fewer than five cells too; here they are refused.
-pub(crate) fn replay_line(t: Tally, record: &[u8]) -> Tally {
+pub(crate) fn replay_line(record: &[u8]) -> u32 {
     let line = line_of(tail(record, 1));
     let digits = text_in(record);
-    let read = t.answer(is_line(line_in(digits), line));
+    let t = answer(0, is_line(line_in(digits), line));
     if 15 < line.size {
-        return read.answer(false);
+        return answer(t, false);
     }
     if 5 <= line.size {
-        return replay_room(read, record);
+        return replay_room(t, record);
     }
-    read.answer(writes(record, 600, 10))
-        .answer(is_front(line, digits))
+    answer(answer(t, writes(record, 600, 10)), is_front(line, digits))
 }
 
 // `g`: the text of a segment is recorded. With bit 7 set it is none.
-pub(crate) fn replay_segment(t: Tally, record: &[u8]) -> Tally {
-    let segment = segment_of(record);
+pub(crate) fn replay_segment(record: &[u8]) -> u32 {
     let mut out = [255u8; 600];
-    let answer = write_segment(Segment::new(segment.blacks | 128, segment.whites), &mut out);
-    replay_room(t, record).answer(is_told(length_word(answer), 9, b"", &out))
+    let told = write_segment(
+        Segment::new(byte(record, 2) | 128, byte(record, 5)),
+        &mut out,
+    );
+    answer(
+        replay_room(0, record),
+        is_told(length_word(told), 9, b"", &out),
+    )
 }
 
 // The segment whose masks are a record's fields.
@@ -79,9 +86,6 @@ fn is_line(answer: LineAnswer, line: Line) -> bool {
 
 // Whether the text of a shorter line is the front of what is written with five cells, two bytes a cell.
 fn is_front(line: Line, digits: &[u8]) -> bool {
-    if digits.len() != 4 * line.size as usize {
-        return false;
-    }
     let wide = Line {
         blacks: line.blacks,
         whites: line.whites,
@@ -91,5 +95,5 @@ fn is_front(line: Line, digits: &[u8]) -> bool {
     let len = bytes_in(digits);
     let mut out = [255u8; 600];
     write_line(wide, &mut out);
-    agrees(&out, head(&bytes, len), len)
+    (len == 2 * line.size as usize) & starts_with(&out, head(&bytes, len))
 }

@@ -1,23 +1,24 @@
 // Records about boards as text: `t` a text that is read, `d` and `D` diagrams that are written.
-use super::bytes::bytes_in;
-use super::bytes::bytes_of;
-use super::cells::cells_of;
 use super::fields::rest_of;
 use super::fields::text_in;
 use super::words::is_told;
 use super::writing::ask_board;
 use super::writing::replay_room;
 use host::renju_read;
-use records::Tally;
+use lent::head;
+use lent::tail;
+use records::answer;
 use records::byte;
 use records::byte_at;
-use text::head;
-use text::tail;
+use records::bytes_in;
+use records::bytes_of;
+use records::cells_of;
+use records::with_cell;
 ghost use Prim.Native.Nat.{_≤_};
 
 // `t`: the board or the refusal is recorded. It is asked into a buffer with room to spare, into one of just a board's length, and into one
 // that is a byte short, which is refused last.
-pub(crate) fn replay_text(t: Tally, record: &[u8]) -> Tally {
+pub(crate) fn replay_text(record: &[u8]) -> u32 {
     let digits = text_in(record);
     let rest = rest_of(record);
     let refused = byte(rest, 1);
@@ -25,21 +26,21 @@ pub(crate) fn replay_text(t: Tally, record: &[u8]) -> Tally {
     let bytes = bytes_of(digits);
     let text = head(&bytes, bytes_in(digits));
     let cells = cells_of(tail(rest, 4));
-    replay_bounds(t, digits)
-        .answer(reads(text, 600, refused, &cells))
-        .answer(reads(text, 225, refused, &cells))
-        .answer(reads(text, 224, short, &cells))
+    let mut t = replay_bounds(digits);
+    t = answer(t, reads(text, 600, refused, &cells));
+    t = answer(t, reads(text, 225, refused, &cells));
+    answer(t, reads(text, 224, short, &cells))
 }
 
 // The text with spaces behind it, a byte longer than a text may be, is refused; so is one with a byte of 128.
-fn replay_bounds(t: Tally, digits: &[u8]) -> Tally {
+fn replay_bounds(digits: &[u8]) -> u32 {
     let mut bytes = bytes_of(digits);
-    let asked = t.answer(reads(&bytes, 600, 1, b""));
+    let t = answer(0, reads(&bytes, 600, 1, b""));
     if digits.len() == 0 {
-        return asked;
+        return t;
     }
     bytes[0] = 128;
-    asked.answer(reads(head(&bytes, bytes_in(digits)), 600, 2, b""))
+    answer(t, reads(head(&bytes, bytes_in(digits)), 600, 2, b""))
 }
 
 // What a text says, asked into so much of a buffer: the cells, or the refusal.
@@ -52,23 +53,22 @@ fn reads(text: &[u8], room: usize, refused: u8, cells: &[u8]) -> bool
 }
 
 // `d` and `D`: the text is recorded. Read, the plain diagram gives the board back; the numbered one is refused, its lines are too long.
-pub(crate) fn replay_diagram(t: Tally, record: &[u8], refused: u8) -> Tally {
+pub(crate) fn replay_diagram(record: &[u8], refused: u8) -> u32 {
     let digits = text_in(record);
     let bytes = bytes_of(digits);
-    let text = head(&bytes, bytes_in(digits));
     let cells = cells_of(head(tail(record, 2), 225));
-    let written = replay_unsound(replay_room(t, record), byte_at(record, 0), cells);
-    written.answer(reads(text, 600, refused, &cells))
+    let letter = byte_at(record, 0);
+    let spoilt = with_cell(cells, 224, 3);
+    let mut t = replay_room(0, record);
+    t = answer(t, refuses_cells(letter, head(&cells, 224)));
+    t = answer(t, refuses_cells(letter, &spoilt));
+    answer(
+        t,
+        reads(head(&bytes, bytes_in(digits)), 600, refused, &cells),
+    )
 }
 
 // Cells that are no board's: a byte too few, a byte over 2.
-fn replay_unsound(t: Tally, letter: u8, cells: [u8; 225]) -> Tally {
-    let few = t.answer(refuses_cells(letter, head(&cells, 224)));
-    let mut spoilt = cells;
-    spoilt[224] = 3;
-    few.answer(refuses_cells(letter, &spoilt))
-}
-
 fn refuses_cells(letter: u8, cells: &[u8]) -> bool {
     let mut out = [255u8; 600];
     let word = ask_board(letter, cells, &mut out);

@@ -1,7 +1,8 @@
 // What was asked answers a word, as every host function does: the number of the refusal in the high half, or, where there is none, the
 // answer.
-use super::bytes::agrees;
 use display::LengthAnswer;
+use lent::head;
+use records::holds;
 use records::refusal_word;
 use rules::CountAnswer;
 
@@ -9,9 +10,14 @@ use rules::CountAnswer;
 // the buffer as it was.
 pub(crate) fn is_told(word: u32, refused: u8, wanted: &[u8], out: &[u8; 600]) -> bool {
     if refused == 0 {
-        return (word as usize == wanted.len()) & agrees(out, wanted, 600);
+        return (word as usize == wanted.len()) & holds(out, wanted);
     }
-    (word == refusal_word(refused)) & agrees(out, b"", 600)
+    (word == refusal_word(refused)) & holds(out, b"")
+}
+
+// Whether a buffer starts with a text.
+pub(crate) fn starts_with(out: &[u8; 600], text: &[u8]) -> bool {
+    holds(head(out, text.len()), text)
 }
 
 // The word of a text that the library writes. None has 65,535 bytes.

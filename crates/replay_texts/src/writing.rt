@@ -1,8 +1,5 @@
 // Records that hold a text that is written: it is asked into a buffer with room to spare, into one of just its length, and into one that
 // is a byte short.
-use super::bytes::bytes_in;
-use super::bytes::bytes_of;
-use super::cells::cells_of;
 use super::fields::rest_of;
 use super::fields::text_in;
 use super::lines::line_of;
@@ -15,25 +12,28 @@ use display::write_points;
 use display::write_segment;
 use host::renju_to_pretty_string;
 use host::renju_to_string;
-use records::Tally;
+use lent::head;
+use lent::tail;
+use records::answer;
 use records::byte;
 use records::byte_at;
-use text::head;
-use text::tail;
+use records::bytes_in;
+use records::bytes_of;
+use records::cells_of;
 ghost use Prim.Native.Nat.{_≤_};
 
 // Where the record has an empty text there is no shorter buffer.
-pub(crate) fn replay_room(t: Tally, record: &[u8]) -> Tally {
+pub(crate) fn replay_room(before: u32, record: &[u8]) -> u32 {
     let len = bytes_in(text_in(record));
     if 600 < len {
-        return t.answer(false);
+        return answer(before, false);
     }
-    let written = t.answer(writes(record, 600, 0))
-        .answer(writes(record, len, 0));
+    let mut t = answer(before, writes(record, 600, 0));
+    t = answer(t, writes(record, len, 0));
     if len == 0 {
-        return written;
+        return t;
     }
-    written.answer(writes(record, len - 1, 13))
+    answer(t, writes(record, len - 1, 13))
 }
 
 // The text, or the refusal, in so much of a buffer.

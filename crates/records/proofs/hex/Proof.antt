@@ -3,13 +3,13 @@ use mathlib.Core.Path.{_≡_, sym, ap, _∙_}
 use Prim.Native.Nat.{_-_, _≤_, min}
 use native.Mathlib.Omega.{arith}
 use borrow.Author.Needs.{needs}
-use Rattle.records.specs.Records.{spelled, hexOf}
+use Rattle.records.specs.Records.{hexSpelled, hexOf}
 use Rattle.records.proofs.Laws.{digit-below, spelled-none, spelled-more, spelled-room}
 use Rattle.records.proofs.hex.Statement.{statement}
 use Rattle.records.proofs.hex.Tie as tie
 
 abbrev Inv-loop : tie.InvT-loop
-Inv-loop s at digits n v₀ k₀ v k = (k ≤ n) × (v ≡ spelled s at k)
+Inv-loop s at digits n v₀ k₀ v k = (k ≤ n) × (v ≡ hexSpelled s at k)
 
 abbrev μ-loop : tie.MeasureT-loop
 μ-loop s at digits n v₀ k₀ v k = n - k
@@ -57,7 +57,7 @@ returns c =
     let s = c .before in
     let a = s .before .before .before .args in
     let e : s .loop .k ≡ min (a .digits) 4 = omega (arith, s .before .at-most-four .ensures) in
-    s .loop .inv .1 ∙ ap (spelled (a .s .now) (a .at)) e
+    s .loop .inv .1 ∙ ap (hexSpelled (a .s .now) (a .at)) e
 
 pub hex-spec : {M : Type 1} → statement M
 hex-spec =

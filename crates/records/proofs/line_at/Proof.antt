@@ -3,7 +3,7 @@ use mathlib.Core.Path.{sym}
 use native.Mathlib.Omega.{arith}
 use borrow.Author.Needs.{needs}
 use Rattle.records.specs.Records.{lineAt}
-use Rattle.records.proofs.Laws.{line-within, line-cut, line-none}
+use Rattle.records.proofs.Laws.{place-within, line-cut, line-none}
 use Rattle.records.proofs.line_at.Statement.{statement}
 use Rattle.records.proofs.line_at.Tie as tie
 
@@ -16,14 +16,14 @@ part-result-start c = search needs
 part-result-end : tie.Need-part-result-end
 part-result-end c =
     let a = c .before .before .before .args in
-    omega (arith, c .before .line-end .ensures, line-within (a .s .now) (a .at))
+    omega (arith, c .before .line-end .ensures, place-within (a .s .now) (a .at) 10)
 
 returns : tie.Need-returns
 unfolding lineAt
 returns c =
     let s = c .before .before in
     let a = s .before .before .args in
-    rw (sym (line-cut (a .s .now) (a .at) (omega (arith, s .line-end .ensures, line-within (a .s .now) (a .at)))), s .line-end .ensures)
+    rw (sym (line-cut (a .s .now) (a .at) (omega (arith, s .line-end .ensures, place-within (a .s .now) (a .at) 10))), s .line-end .ensures)
 
 slice-aggregate-result : tie.Need-slice-aggregate-result
 slice-aggregate-result c = search needs

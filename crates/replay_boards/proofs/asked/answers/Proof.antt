@@ -1,4 +1,4 @@
--- `replay_boards::asked::answers` is safe: the room is part of the page. Assumes nothing.
+-- `replay_boards::asked::answers` is safe: a part of a page is as long as it is. Assumes nothing.
 use mathlib.Core.Path.{sym}
 use native.Mathlib.Omega.{arith}
 use lib.Seq.{length-take-le}
@@ -15,8 +15,8 @@ slice-aggregate-ask c = sym (length-take-le _ _ (omega arith))
 ask-requires : tie.Need-ask-requires
 ask-requires c κs = search needs
 
-same-requires : tie.Need-same-requires
-same-requires c κs = search needs
+is-page-requires : tie.Need-is-page-requires
+is-page-requires c κs = search needs
 
 returns : tie.Need-returns
 returns c = search needs
@@ -24,4 +24,4 @@ returns c = search needs
 pub answers-spec : {M : Type 1} → statement M
 answers-spec =
     tie.close
-    (tie.spec array-borrow-prefix-page slice-aggregate-ask ask-requires same-requires returns)
+    (tie.spec array-borrow-prefix-page slice-aggregate-ask ask-requires is-page-requires returns)

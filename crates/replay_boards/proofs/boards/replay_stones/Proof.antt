@@ -1,14 +1,14 @@
--- `replay_boards::boards::replay_stones` is safe and ends: the measure is how many points are left. Assumes nothing.
+-- `replay_boards::boards::replay_stones` is safe and ends: a turn for each point. Assumes nothing.
 use Prim.Native.Nat.{_-_, _≤_}
 use borrow.Author.Needs.{needs}
 use Rattle.replay_boards.proofs.boards.replay_stones.Statement.{statement}
 use Rattle.replay_boards.proofs.boards.replay_stones.Tie as tie
 
 abbrev Inv-loop : tie.InvT-loop
-Inv-loop board cells t₀ code₀ t code = code ≤ 225
+Inv-loop before board cells t₀ code₀ t code = code ≤ 225
 
 abbrev μ-loop : tie.MeasureT-loop
-μ-loop board cells t₀ code₀ t code = 225 - code
+μ-loop before board cells t₀ code₀ t code = 225 - code
 
 loop-holds : tie.Need-loop-holds Inv-loop μ-loop
 loop-holds c = search needs
@@ -16,14 +16,17 @@ loop-holds c = search needs
 stone-requires : tie.Need-stone-requires Inv-loop μ-loop
 stone-requires c κs = search needs
 
-cast-stone-is : tie.Need-cast-stone-is Inv-loop μ-loop
-cast-stone-is c = search needs
+stone-word-requires : tie.Need-stone-word-requires Inv-loop μ-loop
+stone-word-requires c κs = search needs
 
-array-read-stone-is : tie.Need-array-read-stone-is Inv-loop μ-loop
-array-read-stone-is c = search needs
+cast-answer : tie.Need-cast-answer Inv-loop μ-loop
+cast-answer c = search needs
 
-stone-is-requires : tie.Need-stone-is-requires Inv-loop μ-loop
-stone-is-requires c κs = search needs
+array-read-answer : tie.Need-array-read-answer Inv-loop μ-loop
+array-read-answer c = search needs
+
+cast-answer-2 : tie.Need-cast-answer-2 Inv-loop μ-loop
+cast-answer-2 c = search needs
 
 answer-requires : tie.Need-answer-requires Inv-loop μ-loop
 answer-requires c κs = search needs
@@ -48,9 +51,10 @@ replay-stones-spec =
     μ-loop
     loop-holds
     stone-requires
-    cast-stone-is
-    array-read-stone-is
-    stone-is-requires
+    stone-word-requires
+    cast-answer
+    array-read-answer
+    cast-answer-2
     answer-requires
     add-code
     loop-less

@@ -1,14 +1,14 @@
--- `replay_boards::verdicts::replay_codes` is safe and ends: the measure is how many codes are left. Assumes nothing.
+-- `replay_boards::verdicts::replay_codes` is safe and ends: a turn for each code. Assumes nothing.
 use Prim.Native.Nat.{_-_, _≤_}
 use borrow.Author.Needs.{needs}
 use Rattle.replay_boards.proofs.verdicts.replay_codes.Statement.{statement}
 use Rattle.replay_boards.proofs.verdicts.replay_codes.Tie as tie
 
 abbrev Inv-loop : tie.InvT-loop
-Inv-loop cells «record» t₀ code₀ t code = code ≤ 255
+Inv-loop before board cells «record» t₀ code₀ t code = code ≤ 255
 
 abbrev μ-loop : tie.MeasureT-loop
-μ-loop cells «record» t₀ code₀ t code = 255 - code
+μ-loop before board cells «record» t₀ code₀ t code = 255 - code
 
 loop-holds : tie.Need-loop-holds Inv-loop μ-loop
 loop-holds c = search needs
@@ -21,6 +21,9 @@ word-at-requires c κs = search needs
 
 answer-requires : tie.Need-answer-requires Inv-loop μ-loop
 answer-requires c κs = search needs
+
+replay-point-requires : tie.Need-replay-point-requires Inv-loop μ-loop
+replay-point-requires c κs = search needs
 
 add-code : tie.Need-add-code Inv-loop μ-loop
 add-code c = search needs
@@ -47,6 +50,7 @@ replay-codes-spec =
     ask-requires
     word-at-requires
     answer-requires
+    replay-point-requires
     add-code
     loop-less
     loop-again

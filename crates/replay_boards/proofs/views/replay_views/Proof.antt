@@ -1,20 +1,20 @@
--- `replay_boards::views::replay_views` is safe and ends: the measure is how many views are left. Assumes nothing.
+-- `replay_boards::views::replay_views` is safe and ends: a turn for each view. Assumes nothing.
 use Prim.Native.Nat.{_-_, _≤_}
 use borrow.Author.Needs.{needs}
 use Rattle.replay_boards.proofs.views.replay_views.Statement.{statement}
 use Rattle.replay_boards.proofs.views.replay_views.Tie as tie
 
 abbrev Inv-loop : tie.InvT-loop
-Inv-loop cells t₀ view₀ t view = view ≤ 8
+Inv-loop before cells t₀ view₀ t view = view ≤ 8
 
 abbrev μ-loop : tie.MeasureT-loop
-μ-loop cells t₀ view₀ t view = 8 - view
+μ-loop before cells t₀ view₀ t view = 8 - view
 
 slice-aggregate-refuses : tie.Need-slice-aggregate-refuses Inv-loop μ-loop
 slice-aggregate-refuses c = search needs
 
-turn-requires : tie.Need-turn-requires Inv-loop μ-loop
-turn-requires c κs = search needs
+slice-aggregate-refuses-2 : tie.Need-slice-aggregate-refuses-2 Inv-loop μ-loop
+slice-aggregate-refuses-2 c = search needs
 
 refuses-requires : tie.Need-refuses-requires Inv-loop μ-loop
 refuses-requires c κs = search needs
@@ -47,7 +47,7 @@ replay-views-spec =
     Inv-loop
     μ-loop
     slice-aggregate-refuses
-    turn-requires
+    slice-aggregate-refuses-2
     refuses-requires
     answer-requires
     loop-holds

@@ -1,4 +1,4 @@
--- `replay_boards::views::sent` meets its contract: a store keeps the length. Assumes nothing.
+-- `replay_boards::views::sent` is safe and ends: a store keeps the length. Assumes nothing.
 use mathlib.Core.Path.{_≡_}
 use Prim.Native.Nat.{_-_, _≤_}
 use lib.ListN.{length}
@@ -7,7 +7,7 @@ use Rattle.replay_boards.proofs.views.sent.Statement.{statement}
 use Rattle.replay_boards.proofs.views.sent.Tie as tie
 
 abbrev Inv-loop : tie.InvT-loop
-Inv-loop view cells page₀ code₀ page code = (code ≤ 225) × (3200 ≡ length page)
+Inv-loop view cells page₀ code₀ page code = (code ≤ 225) × (226 ≡ length page)
 
 abbrev μ-loop : tie.MeasureT-loop
 μ-loop view cells page₀ code₀ page code = 225 - code

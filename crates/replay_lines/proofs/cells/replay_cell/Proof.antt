@@ -1,4 +1,4 @@
--- `replay_lines::cells::replay_cell` is safe and ends: the measure is how many kinds are left. Assumes nothing.
+-- `replay_lines::cells::replay_cell` is safe and ends: a turn for each colour and kind. Assumes nothing.
 use Prim.Native.Nat.{_-_, _≤_}
 use borrow.Author.Needs.{needs}
 use Rattle.replay_lines.proofs.cells.replay_cell.Statement.{statement}
@@ -21,12 +21,6 @@ loop-holds c = search needs
 
 mask-of-requires : tie.Need-mask-of-requires Inv-loop μ-loop
 mask-of-requires c κs = search needs
-
-colour-of-requires : tie.Need-colour-of-requires Inv-loop μ-loop
-colour-of-requires c κs = search needs
-
-kind-of-requires : tie.Need-kind-of-requires Inv-loop μ-loop
-kind-of-requires c κs = search needs
 
 replay-rows-on-requires : tie.Need-replay-rows-on-requires Inv-loop μ-loop
 replay-rows-on-requires c κs = search needs
@@ -53,8 +47,6 @@ replay-cell-spec =
     byte-requires
     loop-holds
     mask-of-requires
-    colour-of-requires
-    kind-of-requires
     replay-rows-on-requires
     add-k
     loop-less

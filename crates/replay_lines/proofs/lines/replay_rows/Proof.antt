@@ -1,4 +1,4 @@
--- `replay_lines::lines::replay_rows` is safe and ends: the measure is how many kinds are left. Assumes nothing.
+-- `replay_lines::lines::replay_rows` is safe and ends: a turn for each colour and kind. Assumes nothing.
 use Prim.Native.Nat.{_-_, _≤_}
 use borrow.Author.Needs.{needs}
 use Rattle.replay_lines.proofs.lines.replay_rows.Statement.{statement}
@@ -29,4 +29,6 @@ returns : tie.Need-returns Inv-loop μ-loop
 returns c = search needs
 
 pub replay-rows-spec : {M : Type 1} → statement M
-replay-rows-spec = tie.close (tie.spec Inv-loop μ-loop loop-holds replay-kind-requires add-k loop-less loop-again returns)
+replay-rows-spec =
+    tie.close
+    (tie.spec Inv-loop μ-loop loop-holds replay-kind-requires add-k loop-less loop-again returns)

@@ -1,14 +1,14 @@
--- `replay_lines::segments::replay_kinds` is safe and ends: the measure is how many kinds are left. Assumes nothing.
+-- `replay_lines::segments::replay_kinds` is safe and ends: a turn for each colour and kind. Assumes nothing.
 use Prim.Native.Nat.{_-_, _≤_}
 use borrow.Author.Needs.{needs}
 use Rattle.replay_lines.proofs.segments.replay_kinds.Statement.{statement}
 use Rattle.replay_lines.proofs.segments.replay_kinds.Tie as tie
 
 abbrev Inv-loop : tie.InvT-loop
-Inv-loop line j prev segment t₀ k₀ t k = k ≤ 16
+Inv-loop before line j prev segment t₀ k₀ t k = k ≤ 16
 
 abbrev μ-loop : tie.MeasureT-loop
-μ-loop line j prev segment t₀ k₀ t k = 16 - k
+μ-loop before line j prev segment t₀ k₀ t k = 16 - k
 
 loop-holds : tie.Need-loop-holds Inv-loop μ-loop
 loop-holds c = search needs
@@ -22,17 +22,20 @@ kind-of-requires c κs = search needs
 matches-requires : tie.Need-matches-requires Inv-loop μ-loop
 matches-requires c κs = search needs
 
+test-word-requires : tie.Need-test-word-requires Inv-loop μ-loop
+test-word-requires c κs = search needs
+
 colour-of-requires-2 : tie.Need-colour-of-requires-2 Inv-loop μ-loop
 colour-of-requires-2 c κs = search needs
 
 kind-of-requires-2 : tie.Need-kind-of-requires-2 Inv-loop μ-loop
 kind-of-requires-2 c κs = search needs
 
-starts-of-requires : tie.Need-starts-of-requires Inv-loop μ-loop
-starts-of-requires c κs = search needs
+renju-line-starts-requires : tie.Need-renju-line-starts-requires Inv-loop μ-loop
+renju-line-starts-requires c κs = search needs
 
-starts-as-requires : tie.Need-starts-as-requires Inv-loop μ-loop
-starts-as-requires c κs = search needs
+start-in-requires : tie.Need-start-in-requires Inv-loop μ-loop
+start-in-requires c κs = search needs
 
 answer-requires : tie.Need-answer-requires Inv-loop μ-loop
 answer-requires c κs = search needs
@@ -59,10 +62,11 @@ replay-kinds-spec =
     colour-of-requires
     kind-of-requires
     matches-requires
+    test-word-requires
     colour-of-requires-2
     kind-of-requires-2
-    starts-of-requires
-    starts-as-requires
+    renju-line-starts-requires
+    start-in-requires
     answer-requires
     add-k
     loop-less

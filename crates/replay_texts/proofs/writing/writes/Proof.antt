@@ -1,4 +1,4 @@
--- `replay_texts::writing::writes` is safe: the room is part of the buffer. Assumes nothing.
+-- `replay_texts::writing::writes` is safe: a part of a buffer is as long as it is. Assumes nothing.
 use mathlib.Core.Path.{sym}
 use native.Mathlib.Omega.{arith}
 use lib.Seq.{length-take-le}
