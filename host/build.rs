@@ -1,7 +1,7 @@
-//! Finds the archive of the proved functions, or has `rt` write it, and links it.
+//! Finds the archive of the proved functions, or has it written, and links it.
 //!
 //! The archive is the file that `RENJU_ARCHIVE` names, else the repository's own, which must not be
-//! older than the code that it was compiled from.
+//! older than the code that it was compiled from. The script `archive` beside this file writes it.
 
 use std::env;
 use std::fs;
@@ -27,12 +27,18 @@ fn find() -> Result<PathBuf, String> {
     }
     let arch = variable("CARGO_CFG_TARGET_ARCH")?;
     let os = variable("CARGO_CFG_TARGET_OS")?;
-    if arch != "x86_64" || os != "linux" {
+    // The script writes for the machine that it runs on, which is the one that this runs on.
+    let here = (env::consts::ARCH, env::consts::OS);
+    let writes = matches!(here, ("x86_64" | "aarch64", "linux"));
+    if !writes || here != (arch.as_str(), os.as_str()) {
         return Err(format!(
-            "the target is {arch}, {os}, but `rt staticlib` writes {FILE} for x86-64 Linux"
+            "the target is {arch}, {os}, and this machine is {}, {}, but {FILE} is written on \
+             x86-64 or aarch64 Linux, and for the machine at hand alone. Set RENJU_ARCHIVE to a \
+             {FILE} for the target",
+            here.0, here.1
         ));
     }
-    own(&Path::new(&variable("CARGO_MANIFEST_DIR")?).join(".."))
+    own(Path::new(&variable("CARGO_MANIFEST_DIR")?))
 }
 
 fn variable(name: &str) -> Result<String, String> {
@@ -54,9 +60,11 @@ fn named(archive: PathBuf) -> Result<PathBuf, String> {
 }
 
 /// The repository's archive, written anew where it is absent or stale.
-fn own(root: &Path) -> Result<PathBuf, String> {
+fn own(package: &Path) -> Result<PathBuf, String> {
+    let root = package.join("..");
+    let script = package.join("archive");
     let archive = root.join("target/staticlib").join(FILE);
-    let sources = sources(root);
+    let sources = sources(&root, &script);
     for source in &sources {
         println!("cargo:rerun-if-changed={}", source.display());
     }
@@ -65,26 +73,27 @@ fn own(root: &Path) -> Result<PathBuf, String> {
     if written.is_some() && written >= newest {
         return Ok(archive);
     }
-    if !run_rt(root)? {
-        if written.is_none() {
-            return Err(format!(
-                "there is no {FILE} at {}, and no `rt` on PATH to write it. Install the Rattle \
-                 toolchain so that `rt` is on PATH, or set RENJU_ARCHIVE to a {FILE}",
-                archive.display()
-            ));
-        }
-        println!(
-            "cargo:warning={} is older than the code under crates/, and there is no `rt` on PATH \
-             to write it anew; the old one is linked",
-            archive.display()
-        );
+    if has_rt()? {
+        write(&script)?;
+        return Ok(archive);
     }
+    let shown = archive.display();
+    if written.is_none() {
+        return Err(format!(
+            "there is no {FILE} at {shown}, and no `rt` on PATH to write it. Install the Rattle \
+             toolchain so that `rt` is on PATH, or set RENJU_ARCHIVE to a {FILE}"
+        ));
+    }
+    println!(
+        "cargo:warning={shown} is older than the code under crates/, and there is no `rt` on PATH \
+         to write it anew; the old one is linked"
+    );
     Ok(archive)
 }
 
-/// What the archive is compiled from: the list of crates, and their code.
-fn sources(root: &Path) -> Vec<PathBuf> {
-    let mut sources = vec![root.join("crates.txt")];
+/// What the archive is compiled from: the list of crates, and their code; and what compiles it.
+fn sources(root: &Path, script: &Path) -> Vec<PathBuf> {
+    let mut sources = vec![root.join("crates.txt"), script.to_owned()];
     sources.extend(entries(&root.join("crates")).map(|name| name.join("src")));
     sources.retain(|source| source.exists());
     sources
@@ -106,23 +115,26 @@ fn newest(path: &Path) -> Option<SystemTime> {
     changed(path).max(below)
 }
 
-/// Has `rt` prove and compile the archive; false where there is no `rt`.
-fn run_rt(root: &Path) -> Result<bool, String> {
-    let mut command = Command::new("rt");
-    let output = match command
-        .args(["staticlib", "host"])
-        .current_dir(root)
+/// Whether there is an `rt`, without which the script can't write the archive.
+fn has_rt() -> Result<bool, String> {
+    match Command::new("rt").arg("version").output() {
+        Ok(_) => Ok(true),
+        Err(error) if error.kind() == ErrorKind::NotFound => Ok(false),
+        Err(error) => Err(format!("`rt` cannot be run: {error}")),
+    }
+}
+
+/// Has the script write the archive, by `rt`, which proves and compiles it.
+fn write(script: &Path) -> Result<(), String> {
+    let shown = script.display();
+    let output = Command::new(script)
         .output()
-    {
-        Ok(output) => output,
-        Err(error) if error.kind() == ErrorKind::NotFound => return Ok(false),
-        Err(error) => return Err(format!("`rt` cannot be run: {error}")),
-    };
+        .map_err(|error| format!("{shown} cannot be run: {error}"))?;
     if output.status.success() {
-        return Ok(true);
+        return Ok(());
     }
     Err(format!(
-        "`rt staticlib host` failed, {}. It said:\n{}{}",
+        "{shown}, which has `rt` write {FILE}, failed, {}. It said:\n{}{}",
         output.status,
         String::from_utf8_lossy(&output.stdout),
         String::from_utf8_lossy(&output.stderr)

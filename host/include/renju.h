@@ -20,8 +20,8 @@
  * Cells are 225 bytes in code order, 0 empty, 1 black, 2 white. A point's code is 15 x + y: A1 is
  * 0, H8 is 112, O15 is 224. Where several refusals of a function apply, the first named is given.
  *
- * To link: `rt staticlib host` in the repository's root writes target/staticlib/libhost.a, for
- * x86-64 Linux. Then, in the root:
+ * To link: `host/archive` in the repository's root writes target/staticlib/libhost.a, for the
+ * machine at hand, x86-64 or aarch64 Linux. Then, in the root:
  *
  *     cc -std=c99 -Ihost/include program.c target/staticlib/libhost.a -o program
  */

@@ -2,8 +2,9 @@
 //! reading of document 01 beside it, boards to compare the two on, and the
 //! recorded answers of the original.
 
-/// The original, unchanged, from the folder that `build.rs` found.
-#[allow(dead_code, clippy::all)]
+/// The original, unchanged, from the folder that `build.rs` found. Some of its
+/// comments link to names that its own parent module gives.
+#[allow(dead_code, clippy::all, rustdoc::broken_intra_doc_links)]
 pub mod board {
     include!(concat!(env!("OUT_DIR"), "/board.rs"));
 }

@@ -219,7 +219,7 @@ fn both_hold(line: &[u8], j: usize, colour: u8, n: usize) -> bool {
 
 /// "Sword, Four, Five at j: score 3, 4, 5. Two, Three, Straight at j:
 /// windows j−1 and j both score 2, 3, 4 and cell j+4 is empty." The other
-/// two are [`both_hold`].
+/// two are `both_hold`.
 pub fn is_row(line: &[u8], j: usize, colour: u8, kind: Kind) -> bool {
     if window(line, j).is_none() {
         return false;
