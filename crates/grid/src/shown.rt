@@ -8,8 +8,8 @@ use rules::unless;
 ghost use mathlib.Core.Path.{_≡_};
 ghost use Rattle.grid.specs.Lines.{cellOf, cellsOf, linesOf, sameList, isSound, linesRefusal};
 
-// What stands at a point, read off its column: 0 empty, 1 black, 2 white. A code over 224 is no point; its sum leads to a cell of one of the
-// first horizontal lines.
+// What stands at a point, read off its column: 0 empty, 1 black, 2 white. A code over 224 is no point; its sum leads to a cell of one of
+// the first horizontal lines.
 pub fn cell_on(lines: &[u16; 144], code: u8) -> u8
     ensures { λ r. ⌜ r ≡ cellOf (now (lines .entry)) code ⌝ }
 {

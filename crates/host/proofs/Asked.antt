@@ -14,7 +14,7 @@ use Rattle.cells.specs.Cells.{cellsRefusal}
 use Rattle.cells.proofs.Given.{cells-in}
 
 -- a refusal that is given stays the first one
-first-given : {a told : ℕ} → a ≡ told → (told ≡ 0 → ⊥) → (b : ℕ) → first a b ≡ told
+pub first-given : {a told : ℕ} → a ≡ told → (told ≡ 0 → ⊥) → (b : ℕ) → first a b ≡ told
 unfolding first
 first-given {a} e given b = rw (ne-eqb a 0 (λ z. given (sym e ∙ z))) e
 

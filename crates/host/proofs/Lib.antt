@@ -4,3 +4,5 @@
 pub mod Asked
 -- the one number of an answer
 pub mod Words
+-- the fast referee and the second one are equal, by their contracts
+pub mod Equal

@@ -64,7 +64,7 @@ pub(crate) fn line_count(d: u8) -> u8
     by_direction(d, 15, 15, 29, 29)
 }
 
-// How many cells a line has; 0 for a diagonal over 28, which does not exist.
+// How many cells a line has. Of numbers that are no line's: 15 for a vertical or a horizontal one over 14, 0 for a diagonal over 28.
 pub fn line_size(d: u8, i: u8) -> u8
     ensures { λ r. ⌜ r ≡ lineSize d i ⌝ }
 {
@@ -91,8 +91,8 @@ pub(crate) fn is_stored(d: u8, i: u8) -> bool
     if i < 4 { false } else { i <= 24 }
 }
 
-// The code of the point at cell j of line i; of a cell that is not on that line, what the same sum gives, which is wider than a code and no
-// point of the line.
+// The code of the point at cell j of line i; of a cell that is not on that line, what the same sum gives, which is no point of the line and may
+// be wider than a code.
 pub fn point_at(d: u8, i: u8, j: u8) -> u16
     ensures { λ r. ⌜ r ≡ pointAt d i j ⌝ }
 {

@@ -16,8 +16,8 @@ pub fn view_refusal(view: u8) -> u8
     unless(view < 8, 12)
 }
 
-// The code of the point to which a view sends a point; a view over 7 is taken for 7. A code over 224 is no point, and what it is sent to is
-// none either: that of 255 in view 5 is 269, so that the answer is wider than a code.
+// The code of the point to which a view sends a point; a view over 7 is taken for 7. A code over 224 is no point; the sum is done with it all
+// the same, and gives a number that may be a point's (225 in view 1 gives 0) or wider than a code (255 in view 5 gives 269).
 pub fn turned(code: u8, view: u8) -> u16
     ensures { λ r. ⌜ r ≡ turn view code ⌝ }
 {

@@ -24,12 +24,12 @@ unfoldable pub cellIn : List ℕ → ℕ → ℕ
 cellIn field i = cond (eqb (length field) 225) (cellByte (byteAt field i)) 3
 
 -- a space where a form has one, else a hex digit
-unfoldable pub fits : ℕ → ℕ → Bool
-fits b wanted = cond (eqb wanted 32) (eqb b 32) ((leb 48 b && leb b 57) || (leb 97 b && leb b 102))
+unfoldable pub formFits : ℕ → ℕ → Bool
+formFits b wanted = cond (eqb wanted 32) (eqb b 32) ((leb 48 b && leb b 57) || (leb 97 b && leb b 102))
 
 -- as long as the form or longer, and every byte fits
 unfoldable pub hasForm : List ℕ → List ℕ → Bool
-hasForm s form = leb (length form) (length s) && allBelow (length s) (λ i. fits (byteAt s i) (byteAt form i))
+hasForm s form = leb (length form) (length s) && allBelow (length s) (λ i. formFits (byteAt s i) (byteAt form i))
 
 -- the wanted bytes, and 255 behind them
 unfoldable pub wantedAt : List ℕ → ℕ → ℕ

@@ -18,15 +18,15 @@ total a b = min (a + b) 18446744073709551615
 unfoldable pub added : List ℕ → ℕ → ℕ → List ℕ
 added counts at n = cond (ltb at 64) (set counts at (total (getD counts at 0) n)) counts
 
--- where the four counts of a letter stand; what is no letter of a record has the last four
-abbrev pub rowOf : List ℕ → ℕ → ℕ
-rowOf letters letter = 4 * min (placeFrom letters 0 letter) 15
+-- where the four counts of a letter stand; what is no letter of a record has the four behind the last letter's
+abbrev pub countRow : List ℕ → ℕ → ℕ
+countRow letters letter = 4 * min (placeFrom letters 0 letter) 15
 
 -- records, answers, answers that differ, records with such a one
-unfoldable pub counted : List ℕ → ℕ → ℕ → List ℕ
-counted counts row t =
+unfoldable pub recordCounted : List ℕ → ℕ → ℕ → List ℕ
+recordCounted counts row t =
     added (added (added (added counts row 1) (row + 1) (t % 65536)) (row + 2) (t / 65536)) (row + 3) (min (t / 65536) 1)
 
 -- a comment, byte 35, is no record
 unfoldable pub afterRecord : List ℕ → List ℕ → ℕ → ℕ → List ℕ
-afterRecord counts letters letter t = cond (eqb letter 35) counts (counted counts (rowOf letters letter) t)
+afterRecord counts letters letter t = cond (eqb letter 35) counts (recordCounted counts (countRow letters letter) t)

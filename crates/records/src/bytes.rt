@@ -4,7 +4,7 @@ use super::byte_at;
 ghost use mathlib.Core.Path.{_≡_};
 ghost use lib.ListN.{length, set};
 ghost use Rattle.rules.specs.Tools.{tab};
-ghost use Rattle.records.specs.Bytes.{bytesIn, spelledAt, cellIn, fits, hasForm, wantedAt, holdsBytes};
+ghost use Rattle.records.specs.Bytes.{bytesIn, spelledAt, cellIn, formFits, hasForm, wantedAt, holdsBytes};
 
 // How many bytes digits spell. No list or text has more than 4,096.
 pub fn bytes_in(digits: &[u8]) -> usize
@@ -94,7 +94,7 @@ pub fn has_form(s: &[u8], form: &[u8]) -> bool
 }
 
 fn fits(b: u8, wanted: u8) -> bool
-    ensures { λ r. ⌜ r ≡ fits b wanted ⌝ }
+    ensures { λ r. ⌜ r ≡ formFits b wanted ⌝ }
 {
     if wanted == b' ' {
         return b == b' ';

@@ -4,11 +4,11 @@ use super::tally::sum;
 use libc::STDOUT_FILENO;
 ghost use Prim.Native.Nat.{_<_};
 
-fn say(words: &[u8]) {
+pub fn say(words: &[u8]) {
     io::write_all(STDOUT_FILENO, words);
 }
 
-fn say_number(n: u64) {
+pub fn say_number(n: u64) {
     io::print_decimal(STDOUT_FILENO, n);
 }
 
@@ -38,14 +38,15 @@ pub fn say_counts(letters: &[u8], counts: &[u64; 64]) {
     say_verdict(differ);
 }
 
-// The line of a letter, which is 0 past the last, and how many answers differ with those before.
+// The line of a letter, and how many answers differ with those before. Past the last letter, where it is 0, stands what is no record.
 fn say_row(differ: u64, letter: u8, counts: &[u64; 64], k: u8) -> u64
     requires { ⌜ k < 15 ⌝ }
 {
-    if letter == 0 {
-        return differ;
-    }
     let row = 4 * k as usize;
+    if letter == 0 {
+        say_unread(counts[row]);
+        return sum(differ, counts[row + 2]);
+    }
     say(&[letter, b' ']);
     say_number(counts[row]);
     say(b" records ");
@@ -54,6 +55,14 @@ fn say_row(differ: u64, letter: u8, counts: &[u64; 64], k: u8) -> u64
     say_number(counts[row + 2]);
     say(b" differ\n");
     sum(differ, counts[row + 2])
+}
+
+fn say_unread(lines: u64) {
+    if lines == 0 {
+        return;
+    }
+    say_number(lines);
+    say(b" lines are no records\n");
 }
 
 fn say_verdict(differ: u64) {

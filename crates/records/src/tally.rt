@@ -6,7 +6,7 @@ ghost use mathlib.Core.Path.{_≡_};
 ghost use Prim.Native.Nat.{_+_, _*_, min};
 ghost use lib.ListN.{getD};
 ghost use Rattle.records.specs.Records.{byteAt};
-ghost use Rattle.records.specs.Tallies.{total, afterAnswer, added, afterRecord, rowOf};
+ghost use Rattle.records.specs.Tallies.{total, afterAnswer, added, afterRecord, countRow};
 
 // The answers of a record are counted in one number: those that were compared in its low half, those of them that differ in its high half.
 // No record has 65,536.
@@ -37,15 +37,15 @@ pub fn count(counts: &mut [u64; 64], letters: &[u8], record: &[u8], t: u32)
     add(counts, row + 3, at_most_one(differ));
 }
 
-// Where the four counts of a letter stand. What is no letter of a record has the last four.
+// Where the four counts of a letter stand. What is no letter of a record has the four behind the last letter's.
 fn row_of(letters: &[u8], letter: u8) -> usize
-    ensures { λ r. ⌜ r ≡ rowOf (now (letters .entry)) letter ⌝ }
+    ensures { λ r. ⌜ r ≡ countRow (now (letters .entry)) letter ⌝ }
 {
     let k = find_from(letters, 0, letter);
     if k < 15 { 4 * k } else { 60 }
 }
 
-fn at_most_one(n: u32) -> u64
+pub fn at_most_one(n: u32) -> u64
     ensures { λ r. ⌜ r ≡ min n 1 ⌝ }
 {
     if n == 0 { 0 } else { 1 }
@@ -60,7 +60,7 @@ fn add(counts: &mut [u64; 64], at: usize, n: u64)
 }
 
 // A count does not wrap: it stays at the largest number.
-pub(crate) fn sum(a: u64, b: u64) -> u64
+pub fn sum(a: u64, b: u64) -> u64
     ensures { λ r. ⌜ r ≡ total a b ⌝ }
 {
     if a <= u64::MAX - b { a + b } else { u64::MAX }

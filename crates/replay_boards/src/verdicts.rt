@@ -7,10 +7,10 @@ use records::answer;
 use records::byte_at;
 use records::refusal_word;
 use records::test_word;
+use records::verdict_word;
 use records::with_cell;
 use referee::forbidden_strict;
 use referee::is_double_three;
-use rules::VerdictAnswer;
 
 // Cells that are no board's are refused, before a code is. The board by value is asked too, which is lent to the referee: for its strict
 // verdicts, and beside the plain ones whether a double three is there, asked alone.
@@ -70,13 +70,6 @@ fn replay_point(t: u32, board: Board, record: &[u8], code: u8) -> u32 {
     match byte_at(record, 0) {
         b's' => answer(t, verdict_word(forbidden_strict(board, code)) == word),
         _ => replay_double(t, test_word(is_double_three(board, code)), word),
-    }
-}
-
-fn verdict_word(answer: VerdictAnswer) -> u32 {
-    match answer {
-        VerdictAnswer::Is(verdict) => verdict.number() as u32,
-        VerdictAnswer::Refused(n) => refusal_word(n),
     }
 }
 

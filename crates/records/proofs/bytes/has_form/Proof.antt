@@ -10,12 +10,12 @@ use Rattle.records.specs.Records.{byteAt}
 use Rattle.records.proofs.Laws.{below-none, below-more}
 use borrow.Author.Needs.{needs}
 use borrow.Author.Tests.{le-leb, lt-leb}
-use Rattle.records.specs.Bytes.{fits, hasForm}
+use Rattle.records.specs.Bytes.{formFits, hasForm}
 use Rattle.records.proofs.bytes.has_form.Statement.{statement}
 use Rattle.records.proofs.bytes.has_form.Tie as tie
 
 abbrev Inv-loop : tie.InvT-loop
-Inv-loop s form all₀ i₀ all i = (i ≤ length s) × (all ≡ allBelow i (λ j. fits (byteAt s j) (byteAt form j)))
+Inv-loop s form all₀ i₀ all i = (i ≤ length s) × (all ≡ allBelow i (λ j. formFits (byteAt s j) (byteAt form j)))
 
 abbrev μ-loop : tie.MeasureT-loop
 μ-loop s form all₀ i₀ all i = length s - i
@@ -48,7 +48,7 @@ loop-again : tie.Need-loop-again Inv-loop μ-loop
 loop-again c =
     let s = c .before .before .before .before in
     let a = s .before .before .before .before .args in
-    let f : ℕ → Bool = (λ j. fits (byteAt (a .s .now) j) (byteAt (a .form .now) j)) in
+    let f : ℕ → Bool = (λ j. formFits (byteAt (a .s .now) j) (byteAt (a .form .now) j)) in
     (omega arith, rw (s .loop .inv .1, c .fits2 .ensures, c .before .byte-at .ensures) (below-more f (s .loop .i)))
 
 returns-2 : tie.Need-returns-2 Inv-loop μ-loop

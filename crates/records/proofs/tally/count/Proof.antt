@@ -3,7 +3,7 @@ use mathlib.Core.Path.{sym, _∙_}
 use native.Mathlib.Omega.{arith}
 use borrow.Author.Needs.{needs}
 use borrow.Author.Tests.{eq-eqb, ne-eqb}
-use Rattle.records.specs.Tallies.{counted, afterRecord}
+use Rattle.records.specs.Tallies.{recordCounted, afterRecord}
 use Rattle.records.proofs.tally.count.Statement.{statement}
 use Rattle.records.proofs.tally.count.Tie as tie
 
@@ -60,7 +60,7 @@ add-requires-4 : tie.Need-add-requires-4
 add-requires-4 c κs = search needs
 
 returns-2 : tie.Need-returns-2
-unfolding afterRecord counted
+unfolding afterRecord recordCounted
 returns-2 c =
     let s = c .before .before .before .before .before .before .before .before .before .before .before in
     let i = s .before in
