@@ -181,6 +181,31 @@ uint32_t renju_line_starts_on(uint16_t blacks, uint16_t whites, uint8_t size, ui
 uint32_t renju_line_eyes(uint16_t blacks, uint16_t whites, uint8_t size, uint8_t colour,
                          uint8_t kind);
 
+/* The second referee: slow, for night checks beside the fast one. It walks the cells by their
+ * coordinates. Each of these takes, answers and refuses what the one without `second_` does. */
+
+/* As renju_rows. Refusals 9, 12, 13. */
+uint32_t renju_second_rows(const uint8_t *cells, size_t cells_len, uint8_t colour, uint8_t kind,
+                           uint8_t *out, size_t out_len);
+
+/* As renju_rows_on. Refusals 9, 8, 12, 13. */
+uint32_t renju_second_rows_on(const uint8_t *cells, size_t cells_len, uint8_t code, uint8_t colour,
+                              uint8_t kind, uint8_t *out, size_t out_len);
+
+/* As renju_four_eyes_on. Refusals 9, 8, 12, 13. */
+uint32_t renju_second_four_eyes_on(const uint8_t *cells, size_t cells_len, uint8_t code,
+                                   uint8_t colour, uint8_t *out, size_t out_len);
+
+/* As renju_forbidden. Refusals 9, 8, 11. */
+uint32_t renju_second_forbidden(const uint8_t *cells, size_t cells_len, uint8_t code);
+
+/* As renju_forbidden_strict. Refusals 9, 8. */
+uint32_t renju_second_forbidden_strict(const uint8_t *cells, size_t cells_len, uint8_t code);
+
+/* As renju_forbidden_points. Refusals 9, 13. */
+uint32_t renju_second_forbidden_points(const uint8_t *cells, size_t cells_len, uint8_t *out,
+                                       size_t out_len);
+
 #ifdef __cplusplus
 }
 #endif

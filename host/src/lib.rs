@@ -44,6 +44,11 @@
 //! # Ok::<(), Refusal>(())
 //! ```
 //!
+//! # Checks at night
+//!
+//! [`second`] asks a second referee the same about rows and verdicts: a slow one, which walks the
+//! cells by their coordinates, for checks beside the first.
+//!
 //! # Refusals
 //!
 //! What can be refused is a `Result` with a [`Refusal`], which has the number that the Rattle and
@@ -67,8 +72,10 @@ mod point;
 mod questions;
 #[allow(unsafe_code)] // The calls into the archive.
 pub mod raw;
+mod referee;
 mod refusal;
 mod row;
+pub mod second;
 mod verdict;
 mod view;
 

@@ -1,14 +1,9 @@
 //! What is asked about a board: points, rows, verdicts and crosses.
-//!
-//! Each list is written into a buffer with room for the longest there is, so
-//! it is never refused for want of room.
 
 use crate::raw;
+use crate::referee::{FAST, points};
 use crate::refusal::{answer, given};
-use crate::{
-    CELLS, Cells, Colour, Cross, Crosses, Kind, List, Point, Points, ROWS, ROWS_ON, Refusal, Row,
-    Rows, RowsOn, Verdict,
-};
+use crate::{CELLS, Cells, Colour, Crosses, Kind, Point, Points, Refusal, Rows, RowsOn, Verdict};
 
 impl Cells {
     /// A colour's stones, by code.
@@ -85,10 +80,7 @@ impl Cells {
     /// # Ok::<(), renju::Refusal>(())
     /// ```
     pub fn rows(&self, colour: Colour, kind: Kind) -> Rows {
-        let (colour, kind) = (colour.number(), kind.number());
-        let mut bytes = [0; 4 * ROWS];
-        let count = given(raw::renju_rows(&self.bytes, colour, kind, &mut bytes));
-        rows(count, &bytes)
+        FAST.rows(self, colour, kind)
     }
 
     /// Those through a point, line by line.
@@ -103,16 +95,7 @@ impl Cells {
     /// # Ok::<(), renju::Refusal>(())
     /// ```
     pub fn rows_on(&self, point: Point, colour: Colour, kind: Kind) -> RowsOn {
-        let (code, colour, kind) = (point.code(), colour.number(), kind.number());
-        let mut bytes = [0; 4 * ROWS_ON];
-        let count = given(raw::renju_rows_on(
-            &self.bytes,
-            code,
-            colour,
-            kind,
-            &mut bytes,
-        ));
-        rows(count, &bytes)
+        FAST.rows_on(self, point, colour, kind)
     }
 
     /// The points that make a five of a colour's Fours through a point: line
@@ -127,15 +110,7 @@ impl Cells {
     /// # Ok::<(), renju::Refusal>(())
     /// ```
     pub fn four_eyes_on(&self, point: Point, colour: Colour) -> Points {
-        let (code, colour) = (point.code(), colour.number());
-        let mut codes = [0; CELLS];
-        let count = given(raw::renju_four_eyes_on(
-            &self.bytes,
-            code,
-            colour,
-            &mut codes,
-        ));
-        points(count, &codes)
+        FAST.four_eyes_on(self, point, colour)
     }
 
     /// The plain verdict on a black stone at an empty point, whether or not
@@ -153,8 +128,7 @@ impl Cells {
     /// # Ok::<(), renju::Refusal>(())
     /// ```
     pub fn forbidden(&self, point: Point) -> Result<Verdict, Refusal> {
-        let number = answer(raw::renju_forbidden(&self.bytes, point.code()))?;
-        Ok(verdict(number))
+        FAST.forbidden(self, point)
     }
 
     /// The strict verdict, that of the rules: none at an occupied point and
@@ -169,8 +143,7 @@ impl Cells {
     /// # Ok::<(), renju::Refusal>(())
     /// ```
     pub fn forbidden_strict(&self, point: Point) -> Verdict {
-        let word = raw::renju_forbidden_strict(&self.bytes, point.code());
-        verdict(given(word))
+        FAST.forbidden_strict(self, point)
     }
 
     /// Every point that is forbidden to Black by the strict verdict, with the
@@ -187,32 +160,6 @@ impl Cells {
     /// # Ok::<(), renju::Refusal>(())
     /// ```
     pub fn forbidden_points(&self) -> Crosses {
-        let mut pairs = [0; 2 * CELLS];
-        let count = given(raw::renju_forbidden_points(&self.bytes, &mut pairs));
-        let filler = cross(&[0, 0]);
-        List::gather(filler, count, pairs.as_chunks().0.iter().map(cross))
+        FAST.forbidden_points(self)
     }
-}
-
-fn points(count: u16, codes: &[u8; CELLS]) -> Points {
-    let items = codes.iter().map(|&code| Point::given(code));
-    List::gather(Point::given(0), count, items)
-}
-
-fn rows<const N: usize>(count: u16, bytes: &[u8]) -> List<Row, N> {
-    let items = bytes.as_chunks().0.iter().map(|&row| Row::given(row));
-    List::gather(Row::given([0; 4]), count, items)
-}
-
-/// A pair of the forbidden list: kind, then code.
-fn cross(&[number, code]: &[u8; 2]) -> Cross {
-    Cross {
-        point: Point::given(code),
-        verdict: Verdict::given(number),
-    }
-}
-
-/// A verdict's number fills no more than the low byte.
-fn verdict(number: u16) -> Verdict {
-    Verdict::given(number as u8)
 }

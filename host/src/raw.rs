@@ -165,6 +165,39 @@ mod ffi {
             colour: u8,
             kind: u8,
         ) -> u32;
+        pub fn renju_second_rows(
+            cells: *const u8,
+            cells_len: usize,
+            colour: u8,
+            kind: u8,
+            out: *mut u8,
+            out_len: usize,
+        ) -> u32;
+        pub fn renju_second_rows_on(
+            cells: *const u8,
+            cells_len: usize,
+            code: u8,
+            colour: u8,
+            kind: u8,
+            out: *mut u8,
+            out_len: usize,
+        ) -> u32;
+        pub fn renju_second_four_eyes_on(
+            cells: *const u8,
+            cells_len: usize,
+            code: u8,
+            colour: u8,
+            out: *mut u8,
+            out_len: usize,
+        ) -> u32;
+        pub fn renju_second_forbidden(cells: *const u8, cells_len: usize, code: u8) -> u32;
+        pub fn renju_second_forbidden_strict(cells: *const u8, cells_len: usize, code: u8) -> u32;
+        pub fn renju_second_forbidden_points(
+            cells: *const u8,
+            cells_len: usize,
+            out: *mut u8,
+            out_len: usize,
+        ) -> u32;
     }
 }
 
@@ -451,5 +484,119 @@ pub fn renju_turn(cells: &[u8], view: u8, out: &mut [u8]) -> u32 {
             out.as_mut_ptr(),
             out.len(),
         )
+    }
+}
+
+/// As [`renju_rows`], by the second referee, which is slow: it walks the cells
+/// by their coordinates. At most 572. Refusals 9, 12, 13.
+///
+/// ```
+/// # use renju::raw::*;
+/// let mut cells = [0; 225];
+/// renju_read(b"E8,F8,G8,H8/I8", &mut cells);
+/// let mut out = [0; 4 * 572];
+/// assert_eq!(renju_second_rows(&cells, 1, 4, &mut out), 1);
+/// assert_eq!(out[..4], [22, 3, 0b11110, 0b00001]);
+/// ```
+pub fn renju_second_rows(cells: &[u8], colour: u8, kind: u8, out: &mut [u8]) -> u32 {
+    unsafe {
+        ffi::renju_second_rows(
+            cells.as_ptr(),
+            cells.len(),
+            colour,
+            kind,
+            out.as_mut_ptr(),
+            out.len(),
+        )
+    }
+}
+
+/// As [`renju_rows_on`], by the second referee. At most 20. Refusals 9, 8, 12,
+/// 13.
+///
+/// ```
+/// # use renju::raw::*;
+/// let mut cells = [0; 225];
+/// renju_read(b"E8,F8,G8,H8/I8", &mut cells);
+/// let mut out = [0; 4 * 20];
+/// assert_eq!(renju_second_rows_on(&cells, 52, 1, 4, &mut out), 1);
+/// assert_eq!(renju_second_rows_on(&cells, 37, 1, 4, &mut out), 0);
+/// ```
+pub fn renju_second_rows_on(cells: &[u8], code: u8, colour: u8, kind: u8, out: &mut [u8]) -> u32 {
+    unsafe {
+        ffi::renju_second_rows_on(
+            cells.as_ptr(),
+            cells.len(),
+            code,
+            colour,
+            kind,
+            out.as_mut_ptr(),
+            out.len(),
+        )
+    }
+}
+
+/// As [`renju_four_eyes_on`], by the second referee. Refusals 9, 8, 12, 13.
+///
+/// ```
+/// # use renju::raw::*;
+/// let mut cells = [0; 225];
+/// renju_read(b"E8,F8,G8,H8/A1", &mut cells);
+/// let mut out = [0; 225];
+/// assert_eq!(renju_second_four_eyes_on(&cells, 82, 1, &mut out), 2);
+/// assert_eq!(out[..2], [52, 127]);
+/// ```
+pub fn renju_second_four_eyes_on(cells: &[u8], code: u8, colour: u8, out: &mut [u8]) -> u32 {
+    unsafe {
+        ffi::renju_second_four_eyes_on(
+            cells.as_ptr(),
+            cells.len(),
+            code,
+            colour,
+            out.as_mut_ptr(),
+            out.len(),
+        )
+    }
+}
+
+/// As [`renju_forbidden`], by the second referee: 0 to 3. Refusals 9, 8, 11.
+///
+/// ```
+/// # use renju::raw::*;
+/// let mut cells = [0; 225];
+/// renju_read(b"G8,I8,H7,H9/A1", &mut cells);
+/// assert_eq!(renju_second_forbidden(&cells, 112), 1);
+/// assert_eq!(renju_second_forbidden(&cells, 0), 11 << 16);
+/// ```
+pub fn renju_second_forbidden(cells: &[u8], code: u8) -> u32 {
+    unsafe { ffi::renju_second_forbidden(cells.as_ptr(), cells.len(), code) }
+}
+
+/// As [`renju_forbidden_strict`], by the second referee: 0 to 3. Refusals 9, 8.
+///
+/// ```
+/// # use renju::raw::*;
+/// let mut cells = [0; 225];
+/// renju_read(b"G8,I8,H7,H9/A1", &mut cells);
+/// assert_eq!(renju_second_forbidden_strict(&cells, 112), 1);
+/// assert_eq!(renju_second_forbidden_strict(&cells, 0), 0);
+/// ```
+pub fn renju_second_forbidden_strict(cells: &[u8], code: u8) -> u32 {
+    unsafe { ffi::renju_second_forbidden_strict(cells.as_ptr(), cells.len(), code) }
+}
+
+/// As [`renju_forbidden_points`], by the second referee. Refusals 9, 13.
+///
+/// ```
+/// # use renju::raw::*;
+/// let mut cells = [0; 225];
+/// renju_read(b"G8,I8,H7,H9/A1", &mut cells);
+/// let mut out = [0; 450];
+/// assert_eq!(renju_second_forbidden_points(&cells, &mut out), 1);
+/// assert_eq!(out[..2], [1, 112]);
+/// ```
+pub fn renju_second_forbidden_points(cells: &[u8], out: &mut [u8]) -> u32 {
+    unsafe {
+        ffi::renju_second_forbidden_points(cells.as_ptr(), cells.len(), out.as_mut_ptr(), out.len())
     }
 }

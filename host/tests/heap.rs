@@ -1,6 +1,6 @@
 //! No question about a board touches the heap.
 
-use renju::{Cells, Colour, Kind, Point, View};
+use renju::{Cells, Colour, Kind, Point, View, second};
 use std::alloc::{GlobalAlloc, Layout, System};
 use std::cell::Cell;
 use std::fmt::{self, Write};
@@ -38,6 +38,19 @@ impl Write for Nowhere {
     }
 }
 
+fn ask_the_second(cells: &Cells, point: Point) {
+    for colour in Colour::ALL {
+        black_box(second::four_eyes_on(cells, point, colour));
+        for kind in Kind::ALL {
+            black_box(second::rows(cells, colour, kind));
+            black_box(second::rows_on(cells, point, colour, kind));
+        }
+    }
+    black_box(second::forbidden(cells, point)).unwrap();
+    black_box(second::forbidden_strict(cells, point));
+    black_box(second::forbidden_points(cells));
+}
+
 fn ask_everything(bytes: &[u8], text: &[u8], point: Point) {
     let mut cells = Cells::read(text).unwrap();
     cells.put(point, Colour::Black);
@@ -58,6 +71,7 @@ fn ask_everything(bytes: &[u8], text: &[u8], point: Point) {
     for cross in &cells.turned(View::HalfTurn).forbidden_points() {
         write!(Nowhere, "{cross}").unwrap();
     }
+    ask_the_second(&cells, point);
     write!(Nowhere, "{cells}").unwrap();
 }
 

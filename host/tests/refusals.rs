@@ -126,6 +126,35 @@ fn room(count: u32, bytes: usize, ask: impl Fn(&mut [u8]) -> u32) {
     assert_eq!(kept(0, bytes, &ask), 13 << 16);
 }
 
+/// The functions that both referees have.
+struct Referee {
+    rows: fn(&[u8], u8, u8, &mut [u8]) -> u32,
+    rows_on: fn(&[u8], u8, u8, u8, &mut [u8]) -> u32,
+    four_eyes_on: fn(&[u8], u8, u8, &mut [u8]) -> u32,
+    forbidden: fn(&[u8], u8) -> u32,
+    forbidden_strict: fn(&[u8], u8) -> u32,
+    forbidden_points: fn(&[u8], &mut [u8]) -> u32,
+}
+
+const REFEREES: [Referee; 2] = [
+    Referee {
+        rows: renju_rows,
+        rows_on: renju_rows_on,
+        four_eyes_on: renju_four_eyes_on,
+        forbidden: renju_forbidden,
+        forbidden_strict: renju_forbidden_strict,
+        forbidden_points: renju_forbidden_points,
+    },
+    Referee {
+        rows: renju_second_rows,
+        rows_on: renju_second_rows_on,
+        four_eyes_on: renju_second_four_eyes_on,
+        forbidden: renju_second_forbidden,
+        forbidden_strict: renju_second_forbidden_strict,
+        forbidden_points: renju_second_forbidden_points,
+    },
+];
+
 #[test]
 fn outputs_of_every_length() {
     let (good, _) = good_and_bad();
@@ -137,49 +166,67 @@ fn outputs_of_every_length() {
     room(215, 215, |out| renju_empty_points(cells, out));
     room(60, 60, |out| renju_neighbors(cells, 112, 14, false, out));
     room(53, 53, |out| renju_neighbors(cells, 112, 14, true, out));
-    room(6, 24, |out| renju_rows(cells, 1, 3, out));
-    room(4, 16, |out| renju_rows_on(cells, 112, 1, 3, out));
-    room(1, 1, |out| renju_four_eyes_on(cells, 0, 2, out));
-    room(1, 2, |out| renju_forbidden_points(cells, out));
     room(225, 225, |out| renju_turn(cells, 3, out));
+    for referee in &REFEREES {
+        room(6, 24, |out| (referee.rows)(cells, 1, 3, out));
+        room(4, 16, |out| (referee.rows_on)(cells, 112, 1, 3, out));
+        room(1, 1, |out| (referee.four_eyes_on)(cells, 0, 2, out));
+        room(1, 2, |out| (referee.forbidden_points)(cells, out));
+    }
+}
+
+/// Refused with any output, and no byte of it is changed.
+fn refused(number: u32, ask: impl Fn(&mut [u8]) -> u32) {
+    assert_eq!(kept(0, 0, &ask), number << 16);
+    assert_eq!(kept(600, 0, &ask), number << 16);
 }
 
 /// The order of section 2: 9, 8, 12, then 11 or 13.
 #[test]
 fn first_refusal_of_several() {
     let (good, bad) = good_and_bad();
-    let refused = |number: u32, ask: &dyn Fn(&mut [u8]) -> u32| {
-        assert_eq!(kept(0, 0, ask), number << 16);
-        assert_eq!(kept(600, 0, ask), number << 16);
-    };
-    refused(9, &|out| renju_to_string(&bad, out));
-    refused(9, &|out| renju_to_pretty_string(&bad, out));
-    refused(9, &|out| renju_stones(&bad, 0, out));
-    refused(12, &|out| renju_stones(&good, 0, out));
-    refused(9, &|out| renju_empty_points(&bad, out));
-    refused(9, &|out| renju_neighbors(&bad, 225, 15, true, out));
-    refused(8, &|out| renju_neighbors(&good, 225, 15, true, out));
-    refused(12, &|out| renju_neighbors(&good, 224, 15, true, out));
-    refused(9, &|out| renju_rows(&bad, 3, 8, out));
-    refused(12, &|out| renju_rows(&good, 3, 7, out));
-    refused(12, &|out| renju_rows(&good, 2, 8, out));
-    refused(9, &|out| renju_rows_on(&bad, 225, 3, 8, out));
-    refused(8, &|out| renju_rows_on(&good, 225, 3, 8, out));
-    refused(12, &|out| renju_rows_on(&good, 224, 2, 8, out));
-    refused(9, &|out| renju_four_eyes_on(&bad, 225, 3, out));
-    refused(8, &|out| renju_four_eyes_on(&good, 225, 3, out));
-    refused(12, &|out| renju_four_eyes_on(&good, 224, 3, out));
-    refused(9, &|out| renju_forbidden_points(&bad, out));
-    refused(9, &|out| renju_turn(&bad, 8, out));
-    refused(12, &|out| renju_turn(&good, 8, out));
-    refused(3, &|out| renju_read(b"P8,H16", out));
-    assert_eq!(renju_forbidden(&bad, 225), 9 << 16);
-    assert_eq!(renju_forbidden(&good, 225), 8 << 16);
-    assert_eq!(renju_forbidden(&good, 0), 11 << 16);
-    assert_eq!(renju_forbidden_strict(&bad, 225), 9 << 16);
-    assert_eq!(renju_forbidden_strict(&good, 225), 8 << 16);
+    refused(9, |out| renju_to_string(&bad, out));
+    refused(9, |out| renju_to_pretty_string(&bad, out));
+    refused(9, |out| renju_stones(&bad, 0, out));
+    refused(12, |out| renju_stones(&good, 0, out));
+    refused(9, |out| renju_empty_points(&bad, out));
+    refused(9, |out| renju_neighbors(&bad, 225, 15, true, out));
+    refused(8, |out| renju_neighbors(&good, 225, 15, true, out));
+    refused(12, |out| renju_neighbors(&good, 224, 15, true, out));
+    refused(9, |out| renju_turn(&bad, 8, out));
+    refused(12, |out| renju_turn(&good, 8, out));
+    refused(3, |out| renju_read(b"P8,H16", out));
     assert_eq!(renju_turn_point(225, 8), 8 << 16);
     assert_eq!(renju_turn_point(224, 8), 12 << 16);
+}
+
+/// .. of the questions that both referees answer.
+#[test]
+fn first_refusal_of_either_referee() {
+    let (good, bad) = good_and_bad();
+    for referee in &REFEREES {
+        let Referee { rows, rows_on, .. } = referee;
+        refused(9, |out| rows(&bad, 3, 8, out));
+        refused(9, |out| rows(&good[..224], 3, 8, out));
+        refused(12, |out| rows(&good, 3, 7, out));
+        refused(12, |out| rows(&good, 2, 8, out));
+        refused(9, |out| rows_on(&bad, 225, 3, 8, out));
+        refused(8, |out| rows_on(&good, 225, 3, 8, out));
+        refused(12, |out| rows_on(&good, 224, 3, 7, out));
+        refused(12, |out| rows_on(&good, 224, 2, 8, out));
+        let (four_eyes_on, forbidden_points) = (referee.four_eyes_on, referee.forbidden_points);
+        refused(9, |out| four_eyes_on(&bad, 225, 3, out));
+        refused(8, |out| four_eyes_on(&good, 225, 3, out));
+        refused(12, |out| four_eyes_on(&good, 224, 3, out));
+        refused(9, |out| forbidden_points(&bad, out));
+        refused(9, |out| forbidden_points(&good[..224], out));
+        let (plain, strict) = (referee.forbidden, referee.forbidden_strict);
+        assert_eq!(plain(&bad, 225), 9 << 16);
+        assert_eq!(plain(&good, 225), 8 << 16);
+        assert_eq!(plain(&good, 0), 11 << 16);
+        assert_eq!(strict(&bad, 225), 9 << 16);
+        assert_eq!(strict(&good, 225), 8 << 16);
+    }
 }
 
 #[test]

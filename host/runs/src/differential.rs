@@ -6,6 +6,9 @@
 //! from document 01, and so are the refusals. Lent bytes hold random numbers before each call, so
 //! a byte that is written where none should be is seen.
 //!
+//! What the fast referee is asked about rows and verdicts, the second referee is asked right after
+//! it: a comparison of its own, held to the same answer.
+//!
 //! What it cannot notice: that a byte past the end of what is handed over or lent is read, unless
 //! the answer tells, or that one is written that is none of these. It hands over no buffers that
 //! overlap.

@@ -1,5 +1,5 @@
 //! Times, taken side by side: the original and the host interface on the same boards in one run,
-//! and pictures of both.
+//! the second referee beside the fast one, and pictures of both.
 
 pub mod machine;
 pub mod picture;

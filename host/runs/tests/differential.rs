@@ -1,7 +1,7 @@
 //! The differential run finds nothing in ours, and what is wrong in hosts that are wrong.
 
 use oracle::naive_text::write_diagram;
-use runs::differential::call::{Call, GUARD, Host, Lent, NAMES, ask};
+use runs::differential::call::{Call, GUARD, Host, Lent, NAMES, Question, ask};
 use runs::differential::judge::{Difference, Judge, Progress};
 use runs::differential::tally::Tally;
 use runs::differential::{Plan, lines, report, run, shrink};
@@ -14,7 +14,7 @@ const SHORT: Plan = Plan {
 };
 
 /// The refusals of each function, as the host interface lists them.
-const REFUSALS: [&[usize]; 19] = [
+const REFUSALS: [&[usize]; 25] = [
     &[1, 2, 3, 4, 5, 6, 7, 13],
     &[9, 13],
     &[9, 13],
@@ -34,6 +34,12 @@ const REFUSALS: [&[usize]; 19] = [
     &[9, 10, 12],
     &[9, 10, 12],
     &[9, 10, 12],
+    &[9, 12, 13],
+    &[8, 9, 12, 13],
+    &[8, 9, 12, 13],
+    &[8, 9, 11],
+    &[8, 9],
+    &[9, 13],
 ];
 
 fn short(host: &Host) -> Tally {
@@ -63,6 +69,25 @@ fn ours_has_no_difference_and_every_refusal_is_met() {
         let refused: u64 = count.refusals.iter().sum();
         assert!(count.comparisons > refused, "{name} answers too");
     }
+    assert_both_asked(&tally);
+}
+
+/// The second referee's functions are counted under their own names, and asked what the fast one's
+/// are.
+fn assert_both_asked(tally: &Tally) {
+    for (name, second) in NAMES.iter().zip(&tally.counts) {
+        let Some(question) = name.strip_prefix("renju_second_") else {
+            continue;
+        };
+        let is_fast = |other: &&str| other.strip_prefix("renju_") == Some(question);
+        let (_, fast) = NAMES
+            .iter()
+            .zip(&tally.counts)
+            .find(|(other, _)| is_fast(other))
+            .expect("the fast one's");
+        assert_eq!(second.comparisons, fast.comparisons, "{name}");
+        assert_eq!(second.refusals, fast.refusals, "{name}");
+    }
 }
 
 #[test]
@@ -80,8 +105,8 @@ fn every_line_of_sizes_five_to_ten_has_no_difference() {
 fn a_wrong_verdict_is_found() {
     let wrong = |call: &Call, given: &[u8], lent: &mut Lent| {
         let word = ask(call, given, lent);
-        let is_double_three = matches!(call, Call::ForbiddenStrict { .. }) && word == 1;
-        if is_double_three { 0 } else { word }
+        let strict = matches!(call, Call::Fast(Question::ForbiddenStrict { .. }));
+        if strict && word == 1 { 0 } else { word }
     };
     let found = only_difference(&wrong);
     assert_eq!((found.expected.word, found.got.word), (1, 0));
@@ -90,7 +115,7 @@ fn a_wrong_verdict_is_found() {
     let text = report::difference(&found);
     let (cells, _) = found.case.given.sound.as_ref().expect("sound cells");
     for part in [
-        "renju_forbidden_strict: ForbiddenStrict { code: ",
+        "renju_forbidden_strict: Fast(ForbiddenStrict { code: ",
         &write_diagram(cells),
         "expected word 0x1, answer 1\n",
         "got      word 0x0, answer 0\n",
@@ -104,12 +129,63 @@ fn a_wrong_verdict_at_one_point_of_full_boards_is_found() {
     let wrong = |call: &Call, given: &[u8], lent: &mut Lent| {
         let word = ask(call, given, lent);
         let is_full = given.iter().filter(|&&cell| cell != 0).count() > 100;
-        let is_here = is_full && *call == Call::Forbidden { code: 37 };
+        let is_here = is_full && *call == Call::Fast(Question::Forbidden { code: 37 });
         if is_here && word < 4 { word ^ 1 } else { word }
     };
     let found = only_difference(&wrong);
-    assert_eq!(found.case.call, Call::Forbidden { code: 37 });
+    let call = Call::Fast(Question::Forbidden { code: 37 });
+    assert_eq!(found.case.call, call);
     assert_eq!(found.size(), (101, 225));
+}
+
+/// What the second referee alone says otherwise is told under its own name.
+#[test]
+fn a_wrong_second_verdict_is_found() {
+    let wrong = |call: &Call, given: &[u8], lent: &mut Lent| {
+        let word = ask(call, given, lent);
+        let strict = matches!(call, Call::Second(Question::ForbiddenStrict { .. }));
+        if strict && word == 3 { 2 } else { word }
+    };
+    let found = only_difference(&wrong);
+    assert_eq!((found.expected.word, found.got.word), (3, 2));
+    // With the stone itself six in a row: no overline has fewer stones.
+    assert_eq!(found.size(), (5, 225));
+    let text = report::difference(&found);
+    let name = "renju_second_forbidden_strict: Second(ForbiddenStrict { code: ";
+    assert!(text.contains(name), "{text}");
+}
+
+#[test]
+fn a_wrong_pair_of_the_second_list_is_found() {
+    let wrong = |call: &Call, given: &[u8], lent: &mut Lent| {
+        let word = ask(call, given, lent);
+        let is_list = *call == Call::Second(Question::ForbiddenPoints);
+        if is_list && (2..65536).contains(&word) {
+            lent[3] ^= 1;
+        }
+        word
+    };
+    let found = only_difference(&wrong);
+    assert_eq!(found.expected.word, found.got.word);
+    let text = report::difference(&found);
+    assert!(text.contains("renju_second_forbidden_points"), "{text}");
+    assert!(text.contains("\nlent byte 3: expected "), "{text}");
+}
+
+#[test]
+fn a_refusal_of_the_second_that_writes_is_found() {
+    let wrong = |call: &Call, given: &[u8], lent: &mut Lent| {
+        let word = ask(call, given, lent);
+        let is_rows_on = matches!(call, Call::Second(Question::RowsOn { .. }));
+        if is_rows_on && word == 13 << 16 && !lent.is_empty() {
+            lent[0] ^= 1;
+        }
+        word
+    };
+    let found = only_difference(&wrong);
+    assert_eq!(found.got.word, 13 << 16);
+    let text = report::difference(&found);
+    assert!(text.contains("renju_second_rows_on"), "{text}");
 }
 
 #[test]
@@ -188,7 +264,7 @@ fn refusals_in_another_order_are_found() {
 fn a_count_too_high_is_found() {
     let wrong = |call: &Call, given: &[u8], lent: &mut Lent| {
         let word = ask(call, given, lent);
-        let is_rows = matches!(call, Call::Rows { kind: 1, .. });
+        let is_rows = matches!(call, Call::Fast(Question::Rows { kind: 1, .. }));
         word + u32::from(is_rows && (1..65536).contains(&word))
     };
     let found = only_difference(&wrong);

@@ -8,7 +8,7 @@ use oracle::boards::{self, Dice};
 use oracle::{naive, original};
 use renju::Cells;
 use runs::timing::race::{self, Pace, Race, Times};
-use runs::timing::rows::{Changes, Form, Lists, Texts, Verdicts};
+use runs::timing::rows::{Changes, Form, Lists, Other, Texts, Verdicts};
 use runs::timing::sets::Ready;
 use runs::timing::stats::{Histogram, Summary, percentile, side_by_side};
 use runs::timing::suite::{self, Settings};
@@ -168,7 +168,7 @@ impl Race for Watched {
         self.wrong != Some(question)
     }
 
-    fn original(&mut self, question: usize, _: usize) {
+    fn other(&mut self, question: usize, _: usize) {
         self.asked.push(('o', question));
     }
 
@@ -189,19 +189,19 @@ fn both_are_asked_in_turn_and_as_often() {
     let mut race = Watched { asked, wrong };
     let times = race::run(&mut race, &ONE_CALL).expect("they agree");
     assert_eq!(
-        (times.calls, times.original.len(), times.ours.len()),
+        (times.calls, times.other.len(), times.ours.len()),
         (1, 3, 3)
     );
     // To find out how long a call takes, four pairs of each question come first.
     let rounds = &race.asked[4 * 3 * 2..];
     assert_eq!(rounds.len(), 4 * 3 * 2);
-    let mut original_first = [0; 3];
+    let mut other_first = [0; 3];
     for (n, pair) in rounds.chunks(2).enumerate() {
         assert_eq!((pair[0].1, pair[1].1), (n % 3, n % 3));
         assert_ne!(pair[0].0, pair[1].0);
-        original_first[n % 3] += usize::from(pair[0].0 == 'o');
+        other_first[n % 3] += usize::from(pair[0].0 == 'o');
     }
-    assert_eq!(original_first, [2, 2, 2]);
+    assert_eq!(other_first, [2, 2, 2]);
 }
 
 /// Takes a tenth of a millisecond for a call, and ten times as long for the first on either side.
@@ -227,7 +227,7 @@ impl Race for Slow {
         true
     }
 
-    fn original(&mut self, _: usize, calls: usize) {
+    fn other(&mut self, _: usize, calls: usize) {
         self.ask(0, calls);
     }
 
@@ -267,10 +267,13 @@ fn every_kind_of_question_sees_a_difference() {
     }
     let first = |race: &mut dyn Race| (0..race.count()).find(|&n| !race.agrees(n));
     let (good, bad) = ([good.clone(), good], [bad.clone(), bad]);
-    assert_eq!(first(&mut Lists::new(&good)), None);
-    assert_eq!(first(&mut Lists::new(&bad)), Some(0));
-    assert_eq!(first(&mut Verdicts::new(&good)), None);
-    assert_eq!(first(&mut Verdicts::new(&bad)), Some(110));
+    assert_eq!(first(&mut Lists::new(&good, Other::Original)), None);
+    assert_eq!(first(&mut Lists::new(&bad, Other::Original)), Some(0));
+    assert_eq!(first(&mut Verdicts::new(&good, Other::Original)), None);
+    assert_eq!(first(&mut Verdicts::new(&bad, Other::Original)), Some(110));
+    // The second referee is asked about the same cells as the fast one: there is no difference.
+    assert_eq!(first(&mut Lists::new(&bad, Other::Second)), None);
+    assert_eq!(first(&mut Verdicts::new(&bad, Other::Second)), None);
     for form in Form::ALL {
         assert_eq!(first(&mut Changes::new(good.to_vec(), form)), None);
         assert_eq!(first(&mut Changes::new(bad.to_vec(), form)), Some(0));
@@ -309,7 +312,7 @@ fn the_nested_boards_are_deep() {
 fn a_ratio_over_one_says_that_ours_is_faster() {
     let times = Times {
         calls: 1,
-        original: vec![1.0, 5.0],
+        other: vec![1.0, 5.0],
         ours: vec![2.0, 2.0],
     };
     assert_eq!(table::Row::new("", "", &times).ratio(), 1.5);
@@ -318,18 +321,27 @@ fn a_ratio_over_one_says_that_ours_is_faster() {
 #[test]
 fn a_quick_run_agrees() {
     let mut told = 0;
-    let rows = suite::run(&Settings::quick(3), |_| told += 1).expect("the answers agree");
+    let settings = Settings::quick(3);
+    let rows = suite::run(&settings, |_| told += 1).expect("the answers agree");
     assert_eq!((rows.len(), told), (14, 14));
-    for row in &rows {
+    let second = suite::run_second(&settings, |_| told += 1).expect("the answers agree");
+    assert_eq!((second.len(), told), (10, 24));
+    for row in rows.iter().chain(&second) {
         let name = format!("{} {}", row.question, row.boards);
         assert!(
-            row.asked > 0 && row.original.p50 > 0.0 && row.ours.p50 > 0.0,
+            row.asked > 0 && row.other.p50 > 0.0 && row.ours.p50 > 0.0,
             "{name}"
         );
     }
     let lines = |text: String| text.lines().count();
-    assert_eq!(lines(table::plain(&rows)), 15);
-    assert_eq!(lines(table::markdown(&rows)), 16);
+    let sides = ["second", "fast"];
+    assert_eq!(lines(table::plain(&rows, sides)), 15);
+    assert_eq!(lines(table::markdown(&rows, sides)), 16);
+    let text = table::plain(&second, sides);
+    assert!(
+        text.contains("  second p50  second p99  fast p50  "),
+        "{text}"
+    );
 }
 
 fn bench(arguments: &[&str]) -> Output {
@@ -345,7 +357,8 @@ fn the_program_prints_a_table() {
     assert!(run.status.success(), "{text}");
     assert!(text.contains("- Seed: 7.\n"), "{text}");
     let table: Vec<&str> = text.lines().filter(|l| l.starts_with('|')).collect();
-    assert_eq!(table.len(), 16, "{text}");
+    // Two heads, each with a rule below it: the original's rows, and the second referee's.
+    assert_eq!(table.len(), 2 + 14 + 2 + 10, "{text}");
     assert!(table.iter().all(|l| l.matches('|').count() == 12), "{text}");
     assert_eq!(bench(&["soon"]).status.code(), Some(2));
 }

@@ -51,11 +51,22 @@ static void points(void) {
     say("turn_point", renju_turn_point(225, RENJU_SAME), 0);
 }
 
+static void second_verdicts(void) {
+    say("second_forbidden", renju_second_forbidden(cells, sizeof cells, 112), 0);
+    say("second_forbidden", renju_second_forbidden(cells, sizeof cells, 0), 0);
+    say("second_forbidden_strict", renju_second_forbidden_strict(cells, sizeof cells, 112), 0);
+    say("second_forbidden_strict", renju_second_forbidden_strict(cells, sizeof cells, 225), 0);
+    say("second_forbidden_points",
+        renju_second_forbidden_points(cells, sizeof cells, out, sizeof out), 2);
+    say("second_forbidden_points", renju_second_forbidden_points(cells, sizeof cells, out, 1), 2);
+}
+
 static void verdicts(void) {
     say("forbidden", renju_forbidden(cells, sizeof cells, 112), 0);
     say("forbidden", renju_forbidden(cells, sizeof cells, 0), 0);
     say("forbidden_strict", renju_forbidden_strict(cells, sizeof cells, 112), 0);
     say("forbidden_points", renju_forbidden_points(cells, sizeof cells, out, sizeof out), 2);
+    second_verdicts();
     say("put", renju_put(cells, sizeof cells, 67, RENJU_WHITE), 0);
     say("put", renju_put(cells, sizeof cells, 157, RENJU_WHITE), 0);
     say("forbidden_points", renju_forbidden_points(cells, sizeof cells, out, sizeof out), 2);
@@ -71,10 +82,21 @@ static void rows(void) {
     say("rows", renju_rows(cells, sizeof cells, RENJU_BLACK, 8, out, sizeof out), 4);
     say("four_eyes_on",
         renju_four_eyes_on(cells, sizeof cells, 82, RENJU_BLACK, out, RENJU_CELLS), 1);
+    say("second_four_eyes_on",
+        renju_second_four_eyes_on(cells, sizeof cells, 82, RENJU_BLACK, out, RENJU_CELLS), 1);
+    say("second_four_eyes_on",
+        renju_second_four_eyes_on(cells, sizeof cells, 82, RENJU_EMPTY, out, RENJU_CELLS), 1);
     say("read", read_text("E8,F8,G8/I8,A1"), 0);
     say("rows", renju_rows(cells, sizeof cells, RENJU_BLACK, RENJU_SWORD, out, sizeof out), 4);
     say("rows_on", renju_rows_on(cells, sizeof cells, 37, RENJU_BLACK, RENJU_SWORD, out, some), 4);
     say("rows_on", renju_rows_on(cells, sizeof cells, 37, RENJU_BLACK, RENJU_SWORD, out, 3), 4);
+    say("second_rows",
+        renju_second_rows(cells, sizeof cells, RENJU_BLACK, RENJU_SWORD, out, sizeof out), 4);
+    say("second_rows", renju_second_rows(cells, sizeof cells, RENJU_BLACK, 8, out, sizeof out), 4);
+    say("second_rows_on",
+        renju_second_rows_on(cells, sizeof cells, 37, RENJU_BLACK, RENJU_SWORD, out, some), 4);
+    say("second_rows_on",
+        renju_second_rows_on(cells, sizeof cells, 37, RENJU_BLACK, RENJU_SWORD, out, 3), 4);
 }
 
 /* C3 of the table of cases: White on 0 to 3 and 5 has two rows and one eye. */

@@ -1,5 +1,5 @@
-//! Times the original and the host interface on the same boards: `bench [SEED] [quick]
-//! [--markdown]`.
+//! Times the original and the host interface on the same boards, then the second referee beside the
+//! fast one: `bench [SEED] [quick] [--markdown]`.
 //!
 //! Exit status 1 if any answer differs, 2 for an argument that is not understood.
 
@@ -23,14 +23,18 @@ fn main() -> ExitCode {
     print!("{}", conditions(&asked.settings));
     // Rows come slowly; who waits sees on the error stream that something happens.
     let report = |row: &table::Row| eprintln!("timed: {}, {}", row.question, row.boards);
-    match suite::run(&asked.settings, report) {
-        Ok(rows) => {
+    let both = suite::run(&asked.settings, report)
+        .and_then(|rows| Ok((rows, suite::run_second(&asked.settings, report)?)));
+    match both {
+        Ok((rows, second)) => {
             let write = if asked.markdown {
                 table::markdown
             } else {
                 table::plain
             };
-            println!("\n{}\n{}", write(&rows), table::LEGEND);
+            println!("\n{}", write(&rows, ["original", "ours"]));
+            println!("{}", write(&second, ["second", "fast"]));
+            println!("{}", table::LEGEND);
             ExitCode::SUCCESS
         }
         Err(difference) => {
@@ -68,8 +72,11 @@ fn conditions(settings: &Settings) -> String {
         by_point,
         changed,
         pace,
+        second,
+        second_pace,
     } = settings;
     let (rounds, warm_up, sample) = (pace.rounds, pace.warm_up, pace.sample);
+    let (slow_rounds, slow_warm_up) = (second_pace.rounds, second_pace.warm_up);
     let (machine, clock) = (machine::kind(), machine::clock());
     format!(
         "\
@@ -86,6 +93,9 @@ fn conditions(settings: &Settings) -> String {
   the timed part.
 - Ours: the host calls on 225 cell bytes or on the text. 450 bytes are lent for a list, 225 for a
   board read, zeroed once before the first call and lent again as the last call left them.
+- Second: the second referee beside the fast one, host calls both, on the first {second} boards of
+  each set: the list, and the strict verdict at every empty point. {slow_rounds} rounds after
+  {slow_warm_up} of warm-up.
 - Answers: all compared, before the timed rounds and after them.
 "
     )

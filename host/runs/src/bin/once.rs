@@ -8,7 +8,7 @@ use std::env;
 use std::process::ExitCode;
 
 use runs::timing::race::Race;
-use runs::timing::rows::{Lists, Verdicts};
+use runs::timing::rows::{Lists, Other, Verdicts};
 use runs::timing::sets::{self, Set};
 use runs::timing::suite::{SEED, Settings};
 
@@ -32,10 +32,10 @@ fn main() -> ExitCode {
         return usage();
     };
     let asked = match question {
-        "list" => asked(&mut Lists::new(&set.boards), side),
+        "list" => asked(&mut Lists::new(&set.boards, Other::Original), side),
         "strict" => {
             set.boards.truncate(settings.by_point);
-            asked(&mut Verdicts::new(&set.boards), side)
+            asked(&mut Verdicts::new(&set.boards, Other::Original), side)
         }
         _ => return usage(),
     };
@@ -71,7 +71,7 @@ fn set_of(word: &str, settings: &Settings) -> Option<Set> {
 fn asked<R: Race>(race: &mut R, side: Side) -> usize {
     for question in 0..race.count() {
         match side {
-            Side::Original => race.original(question, 1),
+            Side::Original => race.other(question, 1),
             Side::Ours => race.ours(question, 1),
         }
     }

@@ -1,6 +1,6 @@
 //! All the questions about a board of any sort, and texts to read.
 
-use super::call::{Call, Given};
+use super::call::{Call, Given, Question};
 use super::judge::{Judge, Room};
 use oracle::boards::{self, Dice, SORTS};
 use oracle::cases::{BOARD_CASES, TURNING};
@@ -44,17 +44,19 @@ fn ask(judge: &mut Judge, call: Call, given: &Given) {
 /// Both verdicts at every code, and the list.
 fn verdicts(judge: &mut Judge, given: &Given) {
     for code in 0..=255 {
-        judge.compare(Call::ForbiddenStrict { code }, given, Room::Empty);
-        judge.compare(Call::Forbidden { code }, given, Room::Empty);
+        let strict = Call::Fast(Question::ForbiddenStrict { code });
+        judge.compare(strict, given, Room::Empty);
+        let plain = Call::Fast(Question::Forbidden { code });
+        judge.compare(plain, given, Room::Empty);
     }
-    ask(judge, Call::ForbiddenPoints, given);
+    ask(judge, Call::Fast(Question::ForbiddenPoints), given);
 }
 
 fn whole_board(judge: &mut Judge, given: &Given) {
     for colour in [1, 2] {
         ask(judge, Call::Stones { colour }, given);
         for kind in 0..8 {
-            ask(judge, Call::Rows { colour, kind }, given);
+            ask(judge, Call::Fast(Question::Rows { colour, kind }), given);
         }
     }
     for call in [Call::EmptyPoints, Call::ToString, Call::ToPrettyString] {
@@ -71,10 +73,12 @@ fn around_points(judge: &mut Judge, given: &Given, cells: &Cells) {
         let code = some_code(&mut judge.dice, cells);
         for kind in 0..8 {
             let colour = some_colour(&mut judge.dice);
-            ask(judge, Call::RowsOn { code, colour, kind }, given);
+            let rows_on = Call::Fast(Question::RowsOn { code, colour, kind });
+            ask(judge, rows_on, given);
         }
         let colour = some_colour(&mut judge.dice);
-        ask(judge, Call::FourEyesOn { code, colour }, given);
+        let four_eyes_on = Call::Fast(Question::FourEyesOn { code, colour });
+        ask(judge, four_eyes_on, given);
         let distance = judge.dice.below(16) as u8;
         let only_empty = judge.dice.chance(50);
         let call = Call::Neighbors {

@@ -26,6 +26,38 @@ impl Line {
     }
 }
 
+/// What both referees are asked, with the numbers: each has a function for it.
+#[derive(Debug, Clone, Copy, PartialEq, Eq)]
+pub enum Question {
+    Rows { colour: u8, kind: u8 },
+    RowsOn { code: u8, colour: u8, kind: u8 },
+    FourEyesOn { code: u8, colour: u8 },
+    Forbidden { code: u8 },
+    ForbiddenStrict { code: u8 },
+    ForbiddenPoints,
+}
+
+impl Question {
+    /// The function's place among those of either referee.
+    fn number(&self) -> usize {
+        match self {
+            Question::Rows { .. } => 0,
+            Question::RowsOn { .. } => 1,
+            Question::FourEyesOn { .. } => 2,
+            Question::Forbidden { .. } => 3,
+            Question::ForbiddenStrict { .. } => 4,
+            Question::ForbiddenPoints => 5,
+        }
+    }
+
+    fn lends(&self) -> Lends {
+        match self {
+            Question::Forbidden { .. } | Question::ForbiddenStrict { .. } => Lends::Nothing,
+            _ => Lends::Out,
+        }
+    }
+}
+
 /// A function with its numbers. Bytes that it is handed stand beside it, in [`Given`].
 #[derive(Debug, Clone, Copy, PartialEq, Eq)]
 pub enum Call {
@@ -48,26 +80,8 @@ pub enum Call {
         distance: u8,
         only_empty: bool,
     },
-    Rows {
-        colour: u8,
-        kind: u8,
-    },
-    RowsOn {
-        code: u8,
-        colour: u8,
-        kind: u8,
-    },
-    FourEyesOn {
-        code: u8,
-        colour: u8,
-    },
-    Forbidden {
-        code: u8,
-    },
-    ForbiddenStrict {
-        code: u8,
-    },
-    ForbiddenPoints,
+    /// Of the fast referee.
+    Fast(Question),
     Turn {
         view: u8,
     },
@@ -91,10 +105,12 @@ pub enum Call {
         colour: u8,
         kind: u8,
     },
+    /// Of the second referee.
+    Second(Question),
 }
 
 /// The functions' names, by [`Call::number`].
-pub const NAMES: [&str; 19] = [
+pub const NAMES: [&str; 25] = [
     "renju_read",
     "renju_to_string",
     "renju_to_pretty_string",
@@ -114,6 +130,12 @@ pub const NAMES: [&str; 19] = [
     "renju_line_starts",
     "renju_line_starts_on",
     "renju_line_eyes",
+    "renju_second_rows",
+    "renju_second_rows_on",
+    "renju_second_four_eyes_on",
+    "renju_second_forbidden",
+    "renju_second_forbidden_strict",
+    "renju_second_forbidden_points",
 ];
 
 /// What a function may write to.
@@ -138,17 +160,13 @@ impl Call {
             Call::Stones { .. } => 5,
             Call::EmptyPoints => 6,
             Call::Neighbors { .. } => 7,
-            Call::Rows { .. } => 8,
-            Call::RowsOn { .. } => 9,
-            Call::FourEyesOn { .. } => 10,
-            Call::Forbidden { .. } => 11,
-            Call::ForbiddenStrict { .. } => 12,
-            Call::ForbiddenPoints => 13,
+            Call::Fast(question) => 8 + question.number(),
             Call::Turn { .. } => 14,
             Call::TurnPoint { .. } => 15,
             Call::LineStarts { .. } => 16,
             Call::LineStartsOn { .. } => 17,
             Call::LineEyes { .. } => 18,
+            Call::Second(question) => 19 + question.number(),
         }
     }
 
@@ -159,10 +177,26 @@ impl Call {
     pub fn lends(&self) -> Lends {
         match self {
             Call::Put { .. } | Call::Remove { .. } => Lends::Cells,
-            Call::Forbidden { .. } | Call::ForbiddenStrict { .. } => Lends::Nothing,
+            Call::Fast(question) | Call::Second(question) => question.lends(),
             Call::TurnPoint { .. } => Lends::Nothing,
             _ if self.line().is_some() => Lends::Nothing,
             _ => Lends::Out,
+        }
+    }
+
+    /// What is asked, where both referees are asked it.
+    pub fn question(&self) -> Option<Question> {
+        match *self {
+            Call::Fast(question) | Call::Second(question) => Some(question),
+            _ => None,
+        }
+    }
+
+    /// The same question to the second referee, where it has a function for it.
+    pub fn second(&self) -> Option<Self> {
+        match *self {
+            Call::Fast(question) => Some(Call::Second(question)),
+            _ => None,
         }
     }
 
@@ -264,12 +298,7 @@ pub fn ask(call: &Call, given: &[u8], lent: &mut Lent) -> u32 {
             distance,
             only_empty,
         } => raw::renju_neighbors(given, code, distance, only_empty, lent),
-        Call::Rows { colour, kind } => raw::renju_rows(given, colour, kind, lent),
-        Call::RowsOn { code, colour, kind } => raw::renju_rows_on(given, code, colour, kind, lent),
-        Call::FourEyesOn { code, colour } => raw::renju_four_eyes_on(given, code, colour, lent),
-        Call::Forbidden { code } => raw::renju_forbidden(given, code),
-        Call::ForbiddenStrict { code } => raw::renju_forbidden_strict(given, code),
-        Call::ForbiddenPoints => raw::renju_forbidden_points(given, lent),
+        Call::Fast(question) => ask_fast(question, given, lent),
         Call::Turn { view } => raw::renju_turn(given, view, lent),
         Call::TurnPoint { code, view } => raw::renju_turn_point(code, view),
         Call::LineStarts { line, colour, kind } => {
@@ -284,5 +313,30 @@ pub fn ask(call: &Call, given: &[u8], lent: &mut Lent) -> u32 {
         Call::LineEyes { line, colour, kind } => {
             raw::renju_line_eyes(line.blacks, line.whites, line.size, colour, kind)
         }
+        Call::Second(question) => ask_second(question, given, lent),
+    }
+}
+
+fn ask_fast(question: Question, given: &[u8], lent: &mut Lent) -> u32 {
+    use Question::*;
+    match question {
+        Rows { colour, kind } => raw::renju_rows(given, colour, kind, lent),
+        RowsOn { code, colour, kind } => raw::renju_rows_on(given, code, colour, kind, lent),
+        FourEyesOn { code, colour } => raw::renju_four_eyes_on(given, code, colour, lent),
+        Forbidden { code } => raw::renju_forbidden(given, code),
+        ForbiddenStrict { code } => raw::renju_forbidden_strict(given, code),
+        ForbiddenPoints => raw::renju_forbidden_points(given, lent),
+    }
+}
+
+fn ask_second(question: Question, given: &[u8], lent: &mut Lent) -> u32 {
+    use Question::*;
+    match question {
+        Rows { colour, kind } => raw::renju_second_rows(given, colour, kind, lent),
+        RowsOn { code, colour, kind } => raw::renju_second_rows_on(given, code, colour, kind, lent),
+        FourEyesOn { code, colour } => raw::renju_second_four_eyes_on(given, code, colour, lent),
+        Forbidden { code } => raw::renju_second_forbidden(given, code),
+        ForbiddenStrict { code } => raw::renju_second_forbidden_strict(given, code),
+        ForbiddenPoints => raw::renju_second_forbidden_points(given, lent),
     }
 }

@@ -1,6 +1,6 @@
 //! What a call must answer: refusals by section 2 of document 01, values by the original.
 
-use super::call::{Call, Given};
+use super::call::{Call, Given, Question};
 use oracle::board::board::Board;
 use oracle::naive;
 use oracle::original::{self, Cells, KINDS, player, point, to_cells, to_line};
@@ -34,20 +34,13 @@ fn numbers(call: &Call) -> Numbers {
         ..Numbers::default()
     };
     match *call {
-        Call::Put { code, colour } | Call::FourEyesOn { code, colour } => {
-            (n.code, n.colour) = (Some(code), Some(colour))
-        }
-        Call::Remove { code } | Call::Forbidden { code } | Call::ForbiddenStrict { code } => {
-            n.code = Some(code)
-        }
+        Call::Put { code, colour } => (n.code, n.colour) = (Some(code), Some(colour)),
+        Call::Remove { code } => n.code = Some(code),
         Call::Stones { colour } => n.colour = Some(colour),
         Call::Neighbors { code, distance, .. } => {
             (n.code, n.distance) = (Some(code), Some(distance))
         }
-        Call::Rows { colour, kind } => (n.colour, n.kind) = (Some(colour), Some(kind)),
-        Call::RowsOn { code, colour, kind } => {
-            (n.code, n.colour, n.kind) = (Some(code), Some(colour), Some(kind))
-        }
+        Call::Fast(question) | Call::Second(question) => n = question_numbers(question),
         Call::Turn { view } => n.view = Some(view),
         Call::TurnPoint { code, view } => (n.code, n.view) = (Some(code), Some(view)),
         Call::LineStarts { colour, kind, .. } | Call::LineEyes { colour, kind, .. } => {
@@ -56,8 +49,22 @@ fn numbers(call: &Call) -> Numbers {
         Call::LineStartsOn {
             colour, kind, cell, ..
         } => (n.colour, n.kind, n.cell) = (Some(colour), Some(kind), Some(cell)),
-        Call::Read | Call::ToString | Call::ToPrettyString => {}
-        Call::EmptyPoints | Call::ForbiddenPoints => {}
+        Call::Read | Call::ToString | Call::ToPrettyString | Call::EmptyPoints => {}
+    }
+    n
+}
+
+/// .. of what both referees are asked.
+fn question_numbers(question: Question) -> Numbers {
+    let mut n = Numbers::default();
+    match question {
+        Question::Rows { colour, kind } => (n.colour, n.kind) = (Some(colour), Some(kind)),
+        Question::RowsOn { code, colour, kind } => {
+            (n.code, n.colour, n.kind) = (Some(code), Some(colour), Some(kind))
+        }
+        Question::FourEyesOn { code, colour } => (n.code, n.colour) = (Some(code), Some(colour)),
+        Question::Forbidden { code } | Question::ForbiddenStrict { code } => n.code = Some(code),
+        Question::ForbiddenPoints => {}
     }
     n
 }
@@ -100,8 +107,8 @@ fn is_unsound(call: &Call, given: &Given) -> bool {
 
 /// "the plain verdict (`forbidden`) at an occupied point".
 fn is_occupied(call: &Call, given: &Given) -> bool {
-    match (call, &given.sound) {
-        (&Call::Forbidden { code }, Some((cells, _))) => {
+    match (call.question(), &given.sound) {
+        (Some(Question::Forbidden { code }), Some((cells, _))) => {
             cells.get(usize::from(code)).is_some_and(|&cell| cell != 0)
         }
         _ => false,
@@ -141,19 +148,27 @@ fn of_board(call: &Call, cells: &Cells, board: &Board) -> (u16, Vec<u8>) {
             distance,
             only_empty,
         } => list(original::neighbours(board, code, distance, only_empty), 1),
-        Call::Rows { colour, kind } => list(original::rows(board, colour, kind).concat(), 4),
-        Call::RowsOn { code, colour, kind } => {
+        Call::Fast(question) | Call::Second(question) => of_question(question, board),
+        Call::Turn { view } => list(naive::turned_board(usize::from(view), cells).to_vec(), 1),
+        _ => unreachable!("{call:?} is not about a board"),
+    }
+}
+
+/// .. to what both referees are asked.
+fn of_question(question: Question, board: &Board) -> (u16, Vec<u8>) {
+    use Question::*;
+    match question {
+        Rows { colour, kind } => list(original::rows(board, colour, kind).concat(), 4),
+        RowsOn { code, colour, kind } => {
             list(original::rows_on(board, code, colour, kind).concat(), 4)
         }
-        Call::FourEyesOn { code, colour } => list(original::four_eyes_on(board, code, colour), 1),
-        Call::Forbidden { code } => (original::plain(board, code).into(), Vec::new()),
-        Call::ForbiddenStrict { code } => (original::strict(board, code).into(), Vec::new()),
-        Call::ForbiddenPoints => {
+        FourEyesOn { code, colour } => list(original::four_eyes_on(board, code, colour), 1),
+        Forbidden { code } => (original::plain(board, code).into(), Vec::new()),
+        ForbiddenStrict { code } => (original::strict(board, code).into(), Vec::new()),
+        ForbiddenPoints => {
             let found = original::forbidden_list(board).into_iter();
             list(found.flat_map(|(kind, code)| [kind, code]).collect(), 2)
         }
-        Call::Turn { view } => list(naive::turned_board(usize::from(view), cells).to_vec(), 1),
-        _ => unreachable!("{call:?} is not about a board"),
     }
 }
 

@@ -112,10 +112,19 @@ impl<'a> Judge<'a> {
         }
     }
 
-    /// One comparison, counted.
+    /// One comparison, counted; where the second referee can be asked the same, two.
     pub fn compare(&mut self, call: Call, given: &Given, room: Room) {
+        let answer = expected(&call, given);
+        self.hold(call, given, room, &answer);
+        if let Some(second) = call.second() {
+            self.hold(second, given, room, &answer);
+        }
+    }
+
+    /// One call, held to the answer that it must give.
+    fn hold(&mut self, call: Call, given: &Given, room: Room, answer: &Expected) {
         let filled = self.dice.roll();
-        let differs = self.differs(&call, given, room, filled);
+        let differs = self.differs(&call, given, room, filled, answer);
         self.tally.count(&call, self.expected.word >> 16, differs);
         self.progress.comparisons.fetch_add(1, Relaxed);
         if differs {
@@ -135,7 +144,8 @@ impl<'a> Judge<'a> {
 
     /// The difference in a case, if there is one; not counted.
     pub fn again(&mut self, case: Case) -> Option<Difference> {
-        let differs = self.differs(&case.call, &case.given, case.room, case.filled);
+        let answer = expected(&case.call, &case.given);
+        let differs = self.differs(&case.call, &case.given, case.room, case.filled, &answer);
         differs.then(|| Difference {
             case,
             expected: self.expected.clone(),
@@ -143,9 +153,15 @@ impl<'a> Judge<'a> {
         })
     }
 
-    fn differs(&mut self, call: &Call, given: &Given, room: Room, filled: u64) -> bool {
-        let answer = expected(call, given);
-        self.lend(call, given, room.of(needed(&answer)), filled);
+    fn differs(
+        &mut self,
+        call: &Call,
+        given: &Given,
+        room: Room,
+        filled: u64,
+        answer: &Expected,
+    ) -> bool {
+        self.lend(call, given, room.of(needed(answer)), filled);
         settle(&mut self.expected, answer, call.lends());
         let mut lent = Lent {
             guarded: &mut self.got.lent,
@@ -178,16 +194,16 @@ fn needed(answer: &Expected) -> usize {
 
 /// Makes the outcome that is to be of the bytes before the call: the answer to the front of the
 /// lent ones, or refusal 13 where it has no room.
-fn settle(outcome: &mut Outcome, answer: Expected, lends: Lends) {
+fn settle(outcome: &mut Outcome, answer: &Expected, lends: Lends) {
     let room = outcome.lent.len().saturating_sub(2 * GUARD);
     outcome.word = match answer {
-        Err(number) => u32::from(number) << 16,
+        Err(number) => u32::from(*number) << 16,
         Ok((_, bytes)) if lends == Lends::Out && bytes.len() > room => 13 << 16,
         Ok((number, bytes)) => {
             if !bytes.is_empty() {
-                outcome.lent[GUARD..GUARD + bytes.len()].copy_from_slice(&bytes);
+                outcome.lent[GUARD..GUARD + bytes.len()].copy_from_slice(bytes);
             }
-            number.into()
+            u32::from(*number)
         }
     };
 }

@@ -1,7 +1,7 @@
 //! The limits: every number that an argument can be, unsound bytes and lines, lent bytes of every
 //! length, long and odd texts.
 
-use super::call::{Call, Given, Line};
+use super::call::{Call, Given, Line, Question};
 use super::judge::{Judge, Room};
 use super::lines::{of_a_kind, some_line};
 use oracle::boards::{self, Dice, SORTS};
@@ -52,19 +52,16 @@ fn every() -> [Numbers; 5] {
     all
 }
 
-/// Every function about a board, with every one of the numbers.
+/// Every function about a board, with every one of the numbers. The second referee's are asked
+/// with the fast one's.
 fn calls(numbers: &Numbers) -> Vec<Call> {
     let mut all = vec![Call::ToString, Call::ToPrettyString];
-    all.extend([Call::EmptyPoints, Call::ForbiddenPoints]);
+    all.extend([Call::EmptyPoints, Call::Fast(Question::ForbiddenPoints)]);
     all.extend(numbers.views.iter().map(|&view| Call::Turn { view }));
     for &colour in &numbers.colours {
         all.push(Call::Stones { colour });
-        all.extend(
-            numbers
-                .kinds
-                .iter()
-                .map(|&kind| Call::Rows { colour, kind }),
-        );
+        let rows = |&kind| Call::Fast(Question::Rows { colour, kind });
+        all.extend(numbers.kinds.iter().map(rows));
     }
     for &code in &numbers.codes {
         all.extend(calls_at(numbers, code));
@@ -73,8 +70,9 @@ fn calls(numbers: &Numbers) -> Vec<Call> {
 }
 
 fn calls_at(numbers: &Numbers, code: u8) -> Vec<Call> {
-    let mut all = vec![Call::Remove { code }, Call::Forbidden { code }];
-    all.push(Call::ForbiddenStrict { code });
+    let mut all = vec![Call::Remove { code }];
+    all.push(Call::Fast(Question::Forbidden { code }));
+    all.push(Call::Fast(Question::ForbiddenStrict { code }));
     for &distance in &numbers.distances {
         for only_empty in [false, true] {
             all.push(Call::Neighbors {
@@ -85,12 +83,10 @@ fn calls_at(numbers: &Numbers, code: u8) -> Vec<Call> {
         }
     }
     for &colour in &numbers.colours {
-        all.extend([
-            Call::Put { code, colour },
-            Call::FourEyesOn { code, colour },
-        ]);
-        let kinds = numbers.kinds.iter();
-        all.extend(kinds.map(|&kind| Call::RowsOn { code, colour, kind }));
+        all.push(Call::Put { code, colour });
+        all.push(Call::Fast(Question::FourEyesOn { code, colour }));
+        let rows_on = |&kind| Call::Fast(Question::RowsOn { code, colour, kind });
+        all.extend(numbers.kinds.iter().map(rows_on));
     }
     all
 }

@@ -30,7 +30,7 @@ pub fn opening(plan: &Plan) -> String {
 /// A line for each function: its counts.
 pub fn counts(tally: &Tally) -> String {
     let mut out = format!(
-        "{:<24}{:>12}{:>13}  refusals\n",
+        "{:<32}{:>12}{:>13}  refusals\n",
         "function", "comparisons", "differences"
     );
     for (name, count) in NAMES.iter().zip(&tally.counts) {
@@ -38,7 +38,7 @@ pub fn counts(tally: &Tally) -> String {
         let refusals = refusals(count);
         writeln!(
             out,
-            "{name:<24}{comparisons:>12}{differences:>13}  {refusals}"
+            "{name:<32}{comparisons:>12}{differences:>13}  {refusals}"
         )
         .expect("a string takes all");
     }

@@ -1,15 +1,16 @@
-//! The timed loop: both referees are asked the same questions, in turn.
+//! The timed loop: two referees are asked the same questions, in turn. One is ours, the fast one of
+//! the host interface; the other is the original, or ours that is slow.
 
 use std::time::Instant;
 
-/// Questions that both referees can be asked, told by number.
+/// Questions that both can be asked, told by number.
 pub trait Race {
     fn count(&self) -> usize;
     /// Asks both, outside any timed part, and says whether they answer the same.
     fn agrees(&mut self, question: usize) -> bool;
-    /// Asks the original so many times. This and [`Race::ours`] are what is timed.
-    fn original(&mut self, question: usize, calls: usize);
-    /// Asks the host interface so many times.
+    /// Asks the other one so many times. This and [`Race::ours`] are what is timed.
+    fn other(&mut self, question: usize, calls: usize);
+    /// Asks ours so many times.
     fn ours(&mut self, question: usize, calls: usize);
 }
 
@@ -32,7 +33,7 @@ pub struct Pace {
 pub struct Times {
     /// Calls in one sample, the same for both sides: neither is helped more by being asked again.
     pub calls: usize,
-    pub original: Vec<f64>,
+    pub other: Vec<f64>,
     pub ours: Vec<f64>,
 }
 
@@ -57,7 +58,7 @@ pub fn run(race: &mut impl Race, pace: &Pace) -> Result<Times, usize> {
     let side = |n: usize| fastest.iter().map(|kept| kept[n] / calls as f64).collect();
     Ok(Times {
         calls,
-        original: side(0),
+        other: side(0),
         ours: side(1),
     })
 }
@@ -69,16 +70,16 @@ fn compare(race: &mut impl Race) -> Result<(), usize> {
     }
 }
 
-/// One sample of each side in ns, the original's first in the answer, whichever was asked first.
-fn pair(race: &mut impl Race, question: usize, calls: usize, original_first: bool) -> [f64; 2] {
-    if original_first {
-        let original = timed(|| race.original(question, calls));
+/// One sample of each side in ns, ours last in the answer, whichever was asked first.
+fn pair(race: &mut impl Race, question: usize, calls: usize, other_first: bool) -> [f64; 2] {
+    if other_first {
+        let other = timed(|| race.other(question, calls));
         let ours = timed(|| race.ours(question, calls));
-        [original, ours]
+        [other, ours]
     } else {
         let ours = timed(|| race.ours(question, calls));
-        let original = timed(|| race.original(question, calls));
-        [original, ours]
+        let other = timed(|| race.other(question, calls));
+        [other, ours]
     }
 }
 

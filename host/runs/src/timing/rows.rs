@@ -1,6 +1,6 @@
-//! The questions of the table: lists, verdicts, changes and texts. What is timed is one call of the
-//! original's own function on a board that stands ready, against one call of the host interface on
-//! bytes.
+//! The questions of the tables: lists, verdicts, changes and texts. What is timed is one call of
+//! the original's own function on a board that stands ready, or of the second referee's on bytes,
+//! against one call of the host interface on bytes.
 
 use std::hint::black_box;
 
@@ -19,20 +19,39 @@ const REFUSAL: u32 = 65_536;
 /// The length of the longest list: every point with its kind.
 const LIST: usize = 450;
 
+/// Whom ours, the fast one, is timed against.
+#[derive(Debug, Clone, Copy, PartialEq, Eq)]
+pub enum Other {
+    Original,
+    /// The second referee of the host interface.
+    Second,
+}
+
 /// The list of the forbidden points.
 pub struct Lists<'a> {
     boards: &'a [Ready],
+    other: Other,
     /// Lent to each call; zeroed once, here.
     out: [u8; LIST],
 }
 
 impl<'a> Lists<'a> {
-    pub fn new(boards: &'a [Ready]) -> Self {
+    pub fn new(boards: &'a [Ready], other: Other) -> Self {
         Self {
             boards,
+            other,
             out: [0; LIST],
         }
     }
+}
+
+/// A list by the host interface, in pairs of kind and code; nothing where it is refused.
+fn pairs(ask: fn(&[u8], &mut [u8]) -> u32, cells: &Cells) -> Option<Vec<(u8, u8)>> {
+    let mut out = [0; LIST];
+    let count = ask(cells, &mut out);
+    let pair = |p: &[u8]| (p[0], p[1]);
+    let found = out.chunks(2).take(count as usize).map(pair);
+    (count < REFUSAL).then(|| found.collect())
 }
 
 impl Race for Lists<'_> {
@@ -42,17 +61,28 @@ impl Race for Lists<'_> {
 
     fn agrees(&mut self, question: usize) -> bool {
         let Ready { cells, board, .. } = &self.boards[question];
-        let count = raw::renju_forbidden_points(cells, &mut self.out);
-        let pair = |p: &[u8]| (p[0], p[1]);
-        let found = self.out.chunks(2).take(count as usize).map(pair);
-        count < REFUSAL && found.eq(original::forbidden_list(board))
+        let found = match self.other {
+            Other::Original => Some(original::forbidden_list(board)),
+            Other::Second => pairs(raw::renju_second_forbidden_points, cells),
+        };
+        found.is_some() && found == pairs(raw::renju_forbidden_points, cells)
     }
 
     // The original's `Vec` is dropped in the timed part: a frame has to do that too.
-    fn original(&mut self, question: usize, calls: usize) {
-        let board = &self.boards[question].board;
-        for _ in 0..calls {
-            black_box(black_box(board).forbidden_points());
+    fn other(&mut self, question: usize, calls: usize) {
+        let Ready { cells, board, .. } = &self.boards[question];
+        match self.other {
+            Other::Original => {
+                for _ in 0..calls {
+                    black_box(black_box(board).forbidden_points());
+                }
+            }
+            Other::Second => {
+                for _ in 0..calls {
+                    let word = raw::renju_second_forbidden_points(black_box(cells), &mut self.out);
+                    black_box(word);
+                }
+            }
         }
     }
 
@@ -76,13 +106,18 @@ fn places(boards: &[Ready]) -> Vec<Place> {
 /// The strict verdict at one point.
 pub struct Verdicts<'a> {
     boards: &'a [Ready],
+    other: Other,
     places: Vec<Place>,
 }
 
 impl<'a> Verdicts<'a> {
-    pub fn new(boards: &'a [Ready]) -> Self {
+    pub fn new(boards: &'a [Ready], other: Other) -> Self {
         let places = places(boards);
-        Self { boards, places }
+        Self {
+            boards,
+            other,
+            places,
+        }
     }
 }
 
@@ -94,14 +129,31 @@ impl Race for Verdicts<'_> {
     fn agrees(&mut self, question: usize) -> bool {
         let (n, code) = self.places[question];
         let Ready { cells, board, .. } = &self.boards[n];
-        raw::renju_forbidden_strict(cells, code) == original::strict(board, code).into()
+        let verdict = match self.other {
+            Other::Original => original::strict(board, code).into(),
+            Other::Second => raw::renju_second_forbidden_strict(cells, code),
+        };
+        verdict < REFUSAL && verdict == raw::renju_forbidden_strict(cells, code)
     }
 
-    fn original(&mut self, question: usize, calls: usize) {
+    fn other(&mut self, question: usize, calls: usize) {
         let (n, code) = self.places[question];
-        let (board, point) = (&self.boards[n].board, original::point(code));
-        for _ in 0..calls {
-            black_box(black_box(board).forbidden_strict(black_box(point)));
+        let Ready { cells, board, .. } = &self.boards[n];
+        match self.other {
+            Other::Original => {
+                let point = original::point(code);
+                for _ in 0..calls {
+                    black_box(black_box(board).forbidden_strict(black_box(point)));
+                }
+            }
+            Other::Second => {
+                for _ in 0..calls {
+                    black_box(raw::renju_second_forbidden_strict(
+                        black_box(cells),
+                        black_box(code),
+                    ));
+                }
+            }
         }
     }
 
@@ -193,7 +245,7 @@ impl Race for Changes {
         put && same_put && removed && same(ready) && ready.cells == before
     }
 
-    fn original(&mut self, question: usize, calls: usize) {
+    fn other(&mut self, question: usize, calls: usize) {
         let (n, code) = self.places[question];
         let (ready, point) = (&mut self.boards[n], original::point(code));
         match self.form {
@@ -254,7 +306,7 @@ impl Race for Texts<'_> {
         answer == 225 && same && original::read(&ready.text) == Ok(self.cells)
     }
 
-    fn original(&mut self, question: usize, calls: usize) {
+    fn other(&mut self, question: usize, calls: usize) {
         let text = &self.boards[question].text;
         for _ in 0..calls {
             match self.form {

@@ -1,9 +1,9 @@
-//! The whole run: the board sets, and every row of the table.
+//! The whole run: the board sets, and every row of the two tables.
 
 use std::fmt;
 
 use super::race::{self, Pace, Race};
-use super::rows::{Changes, Form, Lists, Texts, Verdicts};
+use super::rows::{Changes, Form, Lists, Other, Texts, Verdicts};
 use super::sets::{self, Set};
 use super::table::Row;
 
@@ -24,6 +24,9 @@ pub struct Settings {
     /// any board.
     pub changed: usize,
     pub pace: Pace,
+    /// Boards of each set on which the second referee is timed. It is slow, and few say how slow.
+    pub second: usize,
+    pub second_pace: Pace,
 }
 
 impl Settings {
@@ -34,6 +37,11 @@ impl Settings {
             rounds: 15,
             sample: 2_000.0,
         };
+        let second_pace = Pace {
+            warm_up: 1,
+            rounds: 3,
+            ..pace
+        };
         Self {
             seed,
             games: 100,
@@ -41,6 +49,8 @@ impl Settings {
             by_point: 20,
             changed: 4,
             pace,
+            second: 4,
+            second_pace,
         }
     }
 
@@ -58,6 +68,8 @@ impl Settings {
             by_point: 1,
             changed: 1,
             pace,
+            second: 1,
+            second_pace: Pace { rounds: 1, ..pace },
         }
     }
 }
@@ -108,10 +120,29 @@ impl<F: FnMut(&Row)> Growing<F> {
         self.rows.push(row);
         Ok(())
     }
+
+    /// The list on every board of every set, and the verdict at every empty point of the first
+    /// boards of each.
+    fn add_verdicts(
+        &mut self,
+        made: &[Set],
+        by_point: usize,
+        other: Other,
+    ) -> Result<(), Difference> {
+        for set in made {
+            let mut lists = Lists::new(&set.boards, other);
+            self.add("forbidden list", &set.name, &mut lists)?;
+        }
+        for set in made {
+            let mut verdicts = Verdicts::new(&set.boards[..by_point], other);
+            self.add("strict verdict", &set.name, &mut verdicts)?;
+        }
+        Ok(())
+    }
 }
 
-/// Makes the boards, compares all answers and times every row; each is handed to `report` as soon
-/// as it is known. The first difference ends the run.
+/// The fast referee against the original: makes the boards, compares all answers and times every
+/// row; each is handed to `report` as soon as it is known. The first difference ends the run.
 pub fn run(settings: &Settings, report: impl FnMut(&Row)) -> Result<Vec<Row>, Difference> {
     let made = board_sets(settings);
     let games = &made[..sets::STONES.len()];
@@ -120,13 +151,7 @@ pub fn run(settings: &Settings, report: impl FnMut(&Row)) -> Result<Vec<Row>, Di
         rows: Vec::new(),
         report,
     };
-    for set in &made {
-        table.add("forbidden list", &set.name, &mut Lists::new(&set.boards))?;
-    }
-    for set in &made {
-        let boards = &set.boards[..settings.by_point];
-        table.add("strict verdict", &set.name, &mut Verdicts::new(boards))?;
-    }
+    table.add_verdicts(&made, settings.by_point, Other::Original)?;
     for form in Form::ALL {
         let boards = games.iter().flat_map(|s| &s.boards[..settings.changed]);
         let mut changes = Changes::new(boards.cloned().collect(), form);
@@ -140,6 +165,22 @@ pub fn run(settings: &Settings, report: impl FnMut(&Row)) -> Result<Vec<Row>, Di
             &mut Texts::new(boards, form),
         )?;
     }
+    Ok(table.rows)
+}
+
+/// The fast referee against the second one, on the first boards of the same sets.
+pub fn run_second(settings: &Settings, report: impl FnMut(&Row)) -> Result<Vec<Row>, Difference> {
+    let made = board_sets(&Settings {
+        games: settings.second,
+        nested: settings.second,
+        ..*settings
+    });
+    let mut table = Growing {
+        pace: settings.second_pace,
+        rows: Vec::new(),
+        report,
+    };
+    table.add_verdicts(&made, settings.second, Other::Second)?;
     Ok(table.rows)
 }
 

@@ -12,7 +12,7 @@ pub struct Row {
     pub asked: usize,
     /// How many calls went to one sample.
     pub calls: usize,
-    pub original: Summary,
+    pub other: Summary,
     pub ours: Summary,
 }
 
@@ -21,32 +21,32 @@ impl Row {
         Self {
             question: question.to_string(),
             boards: boards.to_string(),
-            asked: times.original.len(),
+            asked: times.ours.len(),
             calls: times.calls,
-            original: Summary::of(&times.original),
+            other: Summary::of(&times.other),
             ours: Summary::of(&times.ours),
         }
     }
 
-    /// How many times as long the original took for all the questions together. Over 1: ours is
+    /// How many times as long the other took for all the questions together. Over 1: ours is
     /// faster.
     pub fn ratio(&self) -> f64 {
-        self.original.sum / self.ours.sum
+        self.other.sum / self.ours.sum
     }
 
     fn fields(&self) -> [String; COLUMNS] {
-        let (original, ours) = (&self.original, &self.ours);
+        let (other, ours) = (&self.other, &self.ours);
         [
             self.question.clone(),
             self.boards.clone(),
             grouped(self.asked as f64, 0),
             self.calls.to_string(),
-            nanos(original.p50),
-            nanos(original.p99),
+            nanos(other.p50),
+            nanos(other.p99),
             nanos(ours.p50),
             nanos(ours.p99),
-            format!("{:.2}", original.p50 / ours.p50),
-            format!("{:.2}", original.p99 / ours.p99),
+            format!("{:.2}", other.p50 / ours.p50),
+            format!("{:.2}", other.p99 / ours.p99),
             format!("{:.2}", self.ratio()),
         ]
     }
@@ -57,27 +57,33 @@ const COLUMNS: usize = 11;
 /// The first two columns are words and stand left; numbers stand right.
 const WORDS: usize = 2;
 
-const HEAD: [&str; COLUMNS] = [
-    "question",
-    "boards",
-    "asked",
-    "calls",
-    "original p50",
-    "original p99",
-    "ours p50",
-    "ours p99",
-    "ratio p50",
-    "ratio p99",
-    "ratio sum",
-];
+/// Whose times stand in a table: the other's name, then that of ours.
+pub type Sides = [&'static str; 2];
 
-/// What the columns mean, for under the table.
+/// The head of the columns.
+fn head([other, ours]: Sides) -> [String; COLUMNS] {
+    [
+        "question".to_string(),
+        "boards".to_string(),
+        "asked".to_string(),
+        "calls".to_string(),
+        format!("{other} p50"),
+        format!("{other} p99"),
+        format!("{ours} p50"),
+        format!("{ours} p99"),
+        "ratio p50".to_string(),
+        "ratio p99".to_string(),
+        "ratio sum".to_string(),
+    ]
+}
+
+/// What the columns mean, for under the tables.
 pub const LEGEND: &str = "\
 Times are ns for one call: the fastest of the rounds for each question, then p50 and p99 over the
 questions. `asked` is how many questions, `calls` how many calls one sample holds. The ratios are
-original / ours, of the p50s, of the p99s and of the sums over all questions; over 1, ours is
-faster. `Board` is the original's board that also keeps a hash, `Grid` the one without; the port
-has no hash.
+original / ours and second / fast, of the p50s, of the p99s and of the sums over all questions;
+over 1, ours is faster, and so many times slower is the second referee than the fast one. `Board`
+is the original's board that also keeps a hash, `Grid` the one without; the port has no hash.
 ";
 
 /// Short times with a decimal, for there it matters.
@@ -100,9 +106,8 @@ fn grouped(number: f64, decimals: usize) -> String {
 }
 
 /// The head and the rows as fields, and how wide each column is.
-fn laid_out(rows: &[Row]) -> (Vec<[String; COLUMNS]>, [usize; COLUMNS]) {
-    let head = HEAD.map(String::from);
-    let fields: Vec<_> = [head]
+fn laid_out(rows: &[Row], sides: Sides) -> (Vec<[String; COLUMNS]>, [usize; COLUMNS]) {
+    let fields: Vec<_> = [head(sides)]
         .into_iter()
         .chain(rows.iter().map(Row::fields))
         .collect();
@@ -130,15 +135,15 @@ fn line(fields: &[String; COLUMNS], widths: &[usize; COLUMNS], between: &str) ->
 }
 
 /// The table as plain text.
-pub fn plain(rows: &[Row]) -> String {
-    let (fields, widths) = laid_out(rows);
+pub fn plain(rows: &[Row], sides: Sides) -> String {
+    let (fields, widths) = laid_out(rows, sides);
     let lines = fields.iter().map(|f| line(f, &widths, "  ") + "\n");
     lines.collect()
 }
 
 /// The table in Markdown.
-pub fn markdown(rows: &[Row]) -> String {
-    let (fields, widths) = laid_out(rows);
+pub fn markdown(rows: &[Row], sides: Sides) -> String {
+    let (fields, widths) = laid_out(rows, sides);
     let mut lines = fields
         .iter()
         .map(|f| format!("| {} |\n", line(f, &widths, " | ")));
