@@ -17,7 +17,8 @@ use Rattle.rules.specs.declared.Player.{Player}
 use Rattle.rules.specs.declared.Player.the-variants.{Black, White}
 use Rattle.rules.specs.declared.RowKind.{RowKind}
 use Rattle.masks.specs.Masks.{placed}
-use Rattle.point.specs.Places.{hasPlace}
+use Rattle.point.specs.Places.{hasPlace, placeBy}
+use Rattle.point.specs.declared.place.Place.{Place}
 
 -- ---- the masks
 
@@ -44,6 +45,13 @@ maskThrough l p r d = cond (hasPlace d p) (maskOn r l (keyAt d p)) 0
 
 unfoldable pub masksThrough : List ℕ → ℕ → Player → List ℕ
 masksThrough l p r = tab 4 (maskThrough l p r)
+
+-- the same by a lent table of addresses; by section 3's it is as above (proofs/Placed.antt, masks-by)
+abbrev pub maskBy : List ℕ → List ℕ → ℕ → Player → ℕ → ℕ
+maskBy l table p r d = cond (placeBy table d p .stored) (maskOn r l (placeBy table d p .key)) 0
+
+unfoldable pub masksBy : List ℕ → List ℕ → ℕ → Player → List ℕ
+masksBy l table p r = tab 4 (maskBy l table p r)
 
 -- ---- the lines of cells, and the cells of lines
 
@@ -109,6 +117,15 @@ markIn l d p r on = cond (hasPlace d p) (markLine l (keyAt d p) (cellNo d p) r o
 -- on all four
 unfoldable pub markOn : List ℕ → ℕ → Player → Bool → List ℕ
 markOn l p r on = markIn (markIn (markIn (markIn l 0 p r on) 1 p r on) 2 p r on) 3 p r on
+
+-- the same by a lent table of addresses; by section 3's it is as above (proofs/Placed.antt, mark-by)
+unfoldable pub markPlace : List ℕ → Place → Player → Bool → List ℕ
+markPlace l a r on = cond (a .stored) (markLine l (a .key) (a .cell) r on) l
+
+unfoldable pub markBy : List ℕ → List ℕ → ℕ → Player → Bool → List ℕ
+markBy l table p r on =
+    markPlace (markPlace (markPlace (markPlace l (placeBy table 0 p) r on) (placeBy table 1 p) r on) (placeBy table 2 p) r on)
+    (placeBy table 3 p) r on
 
 abbrev pub addOn : List ℕ → ℕ → Player → List ℕ
 addOn l p r = markOn l p r true

@@ -2,6 +2,7 @@
 use super::store::add_on;
 use cells::value_at;
 use masks::cell_value;
+use point::addresses;
 use rules::Player;
 use rules::is_colour;
 use rules::unless;
@@ -35,12 +36,13 @@ pub fn cells_on(lines: &[u16; 144]) -> [u8; 225]
 pub fn lines_of(cells: &[u8]) -> [u16; 144]
     ensures { λ r. ⌜ r ≡ linesOf (now (cells .entry)) ⌝ }
 {
+    let table = addresses();
     let mut lines = [0u16; 144];
     let mut i = 0u8;
     while i < 225 {
         let value = value_at(cells, i as usize);
         if is_colour(value) {
-            add_on(&mut lines, i, Player::or_white(value));
+            add_on(&mut lines, &table, i, Player::or_white(value));
         }
         i += 1;
     }

@@ -1,11 +1,14 @@
 // A stone put on the stored lines, and taken off: four plain updates, one for each direction.
 use masks::set_bit;
-use point::address;
+use point::address_by;
+use point::addresses;
 use rules::Player;
 ghost use mathlib.Core.Path.{_≡_};
+ghost use mathlib.Core.Bool.{true, false};
 ghost use Prim.Native.Nat.{_<_};
 ghost use Rattle.rules.specs.Numbers.{colourNo};
-ghost use Rattle.grid.specs.Lines.{entryNo, maskOn, writeLine, writeIn, writeOn, markIn, addOn, liftOn};
+ghost use Rattle.point.specs.Places.{addresses, placeBy};
+ghost use Rattle.grid.specs.Lines.{entryNo, maskOn, writeLine, writeIn, writeOn, markPlace, markBy};
 
 // A stone at a point, in place of what stood there. Nothing changes at a code over 224.
 pub fn put_on(lines: &mut [u16; 144], code: u8, player: Player)
@@ -25,18 +28,19 @@ pub fn remove_on(lines: &mut [u16; 144], code: u8)
 fn write_on(lines: &mut [u16; 144], code: u8, value: u8)
     ensures { λ _. ⌜ now (lines .exit) ≡ writeOn (now (lines .entry)) code value ⌝ }
 {
-    write_along(lines, 0, code, value);
-    write_along(lines, 1, code, value);
-    write_along(lines, 2, code, value);
-    write_along(lines, 3, code, value);
+    let table = addresses();
+    write_along(lines, &table, 0, code, value);
+    write_along(lines, &table, 1, code, value);
+    write_along(lines, &table, 2, code, value);
+    write_along(lines, &table, 3, code, value);
 }
 
 // .. on the line through it in one direction, if that is stored.
-fn write_along(lines: &mut [u16; 144], d: u8, code: u8, value: u8)
-    requires { ⌜ d < 4 ⌝ }
+fn write_along(lines: &mut [u16; 144], table: &[u16; 900], d: u8, code: u8, value: u8)
+    requires { ⌜ (d < 4) × (now table ≡ addresses) ⌝ }
     ensures { λ _. ⌜ now (lines .exit) ≡ writeIn (now (lines .entry)) d code value ⌝ }
 {
-    let a = address(d, code);
+    let a = address_by(table, d, code);
     if a.stored {
         write_line(lines, a.key, a.cell, value);
     }
@@ -54,33 +58,32 @@ fn write_line(lines: &mut [u16; 144], key: u8, cell: u8, value: u8)
     lines[72 + k] = whites;
 }
 
-// A stone at a point where none stands: its colour's bit on each stored line through it, which is half of what a put writes.
-// Nothing changes at a code over 224, here and below.
-pub fn add_on(lines: &mut [u16; 144], code: u8, player: Player)
-    ensures { λ _. ⌜ now (lines .exit) ≡ addOn (now (lines .entry)) code player ⌝ }
+// A stone at a point where none stands: its colour's bit on each stored line through it, which is half of what a put writes. The addresses
+// are those of the lent table, which whoever adds many stones lays out once. Nothing changes at a code over 224, here and below.
+pub fn add_on(lines: &mut [u16; 144], table: &[u16; 900], code: u8, player: Player)
+    ensures { λ _. ⌜ now (lines .exit) ≡ markBy (now (lines .entry)) (now (table .entry)) code player true ⌝ }
 {
-    mark_along(lines, 0, code, player, true);
-    mark_along(lines, 1, code, player, true);
-    mark_along(lines, 2, code, player, true);
-    mark_along(lines, 3, code, player, true);
+    mark_along(lines, table, 0, code, player, true);
+    mark_along(lines, table, 1, code, player, true);
+    mark_along(lines, table, 2, code, player, true);
+    mark_along(lines, table, 3, code, player, true);
 }
 
 // The player's stone taken off again.
-pub fn lift_on(lines: &mut [u16; 144], code: u8, player: Player)
-    ensures { λ _. ⌜ now (lines .exit) ≡ liftOn (now (lines .entry)) code player ⌝ }
+pub fn lift_on(lines: &mut [u16; 144], table: &[u16; 900], code: u8, player: Player)
+    ensures { λ _. ⌜ now (lines .exit) ≡ markBy (now (lines .entry)) (now (table .entry)) code player false ⌝ }
 {
-    mark_along(lines, 0, code, player, false);
-    mark_along(lines, 1, code, player, false);
-    mark_along(lines, 2, code, player, false);
-    mark_along(lines, 3, code, player, false);
+    mark_along(lines, table, 0, code, player, false);
+    mark_along(lines, table, 1, code, player, false);
+    mark_along(lines, table, 2, code, player, false);
+    mark_along(lines, table, 3, code, player, false);
 }
 
 // .. on the line in one direction, if that is stored.
-fn mark_along(lines: &mut [u16; 144], d: u8, code: u8, player: Player, on: bool)
-    requires { ⌜ d < 4 ⌝ }
-    ensures { λ _. ⌜ now (lines .exit) ≡ markIn (now (lines .entry)) d code player on ⌝ }
+fn mark_along(lines: &mut [u16; 144], table: &[u16; 900], d: u8, code: u8, player: Player, on: bool)
+    ensures { λ _. ⌜ now (lines .exit) ≡ markPlace (now (lines .entry)) (placeBy (now (table .entry)) d code) player on ⌝ }
 {
-    let a = address(d, code);
+    let a = address_by(table, d, code);
     if a.stored {
         let k = entry_no(player, a.key);
         lines[k] = set_bit(lines[k], a.cell, on);

@@ -6,6 +6,7 @@ mod index;
 mod key;
 mod lines;
 mod place;
+mod table;
 mod view;
 
 pub use answer::IndexAnswer;
@@ -29,6 +30,8 @@ pub use lines::point_at;
 pub use lines::step_in;
 pub use place::Place;
 pub use place::address;
+pub use place::address_by;
+pub use table::addresses;
 pub use view::turn_point;
 pub use view::turned;
 pub use view::undone;

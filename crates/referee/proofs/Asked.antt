@@ -16,10 +16,12 @@ use Rattle.rules.specs.declared.Verdict.the-variants.{None}
 use Rattle.rules.proofs.Grown.{twos-grown}
 use Rattle.rules.proofs.Verdicts.{strict-taken}
 use Rattle.lent.specs.Lists.{zeros}
-use Rattle.grid.specs.Lines.{cellOf, cellsOf, linesOf, Sound, writeOn, addOn, liftOn}
+use Rattle.point.specs.Places.{addresses}
+use Rattle.grid.specs.Lines.{cellOf, cellsOf, linesOf, Sound, writeOn, markBy, addOn, liftOn}
 use Rattle.grid.proofs.Lines.{cells-linesOf, sound-linesOf, length-cellsOf, cell-on, empty-cell}
 use Rattle.grid.proofs.Lines.{cells-write, sound-write, trial, trial-empties}
 use Rattle.grid.proofs.Marked.{add-write, trial-marked}
+use Rattle.grid.proofs.Placed.{mark-by}
 use Rattle.cells.specs.Cells.{Cells}
 
 -- ---- by the cell at p
@@ -84,13 +86,18 @@ module _ (l : List ℕ) (p : ℕ) (s : Sound l) (hp : p < 225) (free : getD (cel
   pub off-same : {n o : List ℕ} → n ≡ m → o ≡ writeOn n p 0 → o ≡ l
   off-same en eo = eo ∙ ap (λ (x : List ℕ). writeOn x p 0) (en ∙ e) ∙ trial Black l p s free
 
--- .. added and lifted
-pub added : (l : List ℕ) (p : ℕ) {m : List ℕ} → Sound l → p < 225 → getD (cellsOf l) p 0 ≡ 0 → m ≡ addOn l p Black → m ≡ writeOn l p 1
-added l p s hp free e = e ∙ add-write l p Black s hp free
+-- .. added and lifted by the table of addresses
+module _ (l table : List ℕ) (p : ℕ) (t : table ≡ addresses) (s : Sound l) (hp : p < 225) (free : getD (cellsOf l) p 0 ≡ 0) {m : List ℕ}
+    (em : m ≡ markBy l table p Black true) where
+  added-on : m ≡ addOn l p Black
+  added-on = em ∙ mark-by l table p Black true t
 
-pub lifted : (l : List ℕ) (p : ℕ) {m n o : List ℕ} → Sound l → p < 225 → getD (cellsOf l) p 0 ≡ 0 → m ≡ addOn l p Black → n ≡ m
-    → o ≡ liftOn n p Black → o ≡ l
-lifted l p s hp free em en eo = eo ∙ ap (λ (x : List ℕ). liftOn x p Black) (en ∙ em) ∙ trial-marked l p Black s hp free
+  pub added : m ≡ writeOn l p 1
+  added = added-on ∙ add-write l p Black s hp free
+
+  pub lifted : {n o : List ℕ} → n ≡ m → o ≡ markBy n table p Black false → o ≡ l
+  lifted {n} en eo =
+      eo ∙ mark-by n table p Black false t ∙ ap (λ (x : List ℕ). liftOn x p Black) (en ∙ added-on) ∙ trial-marked l p Black s hp free
 
 -- ---- what falls, on lines m that are the lines l at the start
 pub fewer : (n : ℕ) (l m : List ℕ) (t : ℕ) → m ≡ l → 7 * empties (cellsOf l) + suc n ≡ t → 7 * empties (cellsOf m) + n < t

@@ -1,5 +1,6 @@
 // The strict question asks the plain one, which asks the strict one. The lines are lent to all of them: a trial stone is put, the question
-// asked on the same lines, and the stone taken off again. The board is not copied. Each turn has one empty point fewer.
+// asked on the same lines, and the stone taken off again. The board is not copied. Each turn has one empty point fewer. The table of
+// addresses is lent too: it is laid out once, by whoever asks first.
 use super::eye::eye_on;
 use super::rows::rows_on;
 use grid::add_on;
@@ -18,37 +19,40 @@ ghost use Rattle.rules.specs.Grid.{startMasks, startsOf, rowsThrough, numbered,
 ghost use Rattle.rules.specs.Forbidden.{moreThanOne, withBlack, strictOf, isReal, realThrees, realDouble};
 ghost use Rattle.rules.specs.declared.Player.the-variants.{Black};
 ghost use Rattle.rules.specs.declared.RowKind.the-variants.{Three};
+ghost use Rattle.point.specs.Places.{addresses};
 ghost use Rattle.grid.specs.Lines.{cellsOf, Sound};
 ghost use Rattle.referee.specs.Referee.{Triable, strictBy, plainBy};
 
 // "The strict verdict is none at an occupied point or where a black Four goes through p (p completes a five); otherwise it is the plain
 // one."
-pub(crate) fn strict(lines: &mut [u16; 144], code: u8) -> Verdict
-    requires { ⌜ Sound (now lines) × (code < 225) ⌝ }
+pub(crate) fn strict(lines: &mut [u16; 144], table: &[u16; 900], code: u8) -> Verdict
+    requires { ⌜ Sound (now lines) × (code < 225) × (now table ≡ addresses) ⌝ }
     ensures { λ r. ⌜ (r ≡ strictOf (cellsOf (now (lines .entry))) code) × (now (lines .exit) ≡ now (lines .entry)) ⌝ }
 {
     if cell_on(lines, code) != 0 {
         return Verdict::None;
     }
-    let rows = rows_on(lines, code);
-    strict_by(lines, code, rows)
+    let rows = rows_on(lines, table, code);
+    strict_by(lines, table, code, rows)
 }
 
 // .. by the rows that go through the point. Here and in `plain` the lines are asked only where more than one Two goes through it.
-pub(crate) fn strict_by(lines: &mut [u16; 144], code: u8, rows: Rows) -> Verdict
-    requires { ⌜ (code < 225) × (T (moreThanOne (startsOf (rows .twos))) → Triable (now lines) code (rows .twos)) ⌝ }
+pub(crate) fn strict_by(lines: &mut [u16; 144], table: &[u16; 900], code: u8, rows: Rows) -> Verdict
+    requires { ⌜ (code < 225) × (T (moreThanOne (startsOf (rows .twos))) → Triable (now lines) code (rows .twos))
+        × (now table ≡ addresses) ⌝ }
     ensures { λ r. ⌜ (r ≡ strictBy (now (lines .entry)) code rows) × (now (lines .exit) ≡ now (lines .entry)) ⌝ }
 {
     let fours = rows.fours;
     if some_row(fours) {
         return Verdict::None;
     }
-    plain(lines, code, rows)
+    plain(lines, table, code, rows)
 }
 
 // "The plain verdict at an empty p, first that applies". "Nothing is asked after the first kind that applies."
-pub(crate) fn plain(lines: &mut [u16; 144], code: u8, rows: Rows) -> Verdict
-    requires { ⌜ (code < 225) × (T (moreThanOne (startsOf (rows .twos))) → Triable (now lines) code (rows .twos)) ⌝ }
+pub(crate) fn plain(lines: &mut [u16; 144], table: &[u16; 900], code: u8, rows: Rows) -> Verdict
+    requires { ⌜ (code < 225) × (T (moreThanOne (startsOf (rows .twos))) → Triable (now lines) code (rows .twos))
+        × (now table ≡ addresses) ⌝ }
     ensures { λ r. ⌜ (r ≡ plainBy (now (lines .entry)) code rows) × (now (lines .exit) ≡ now (lines .entry)) ⌝ }
 {
     let overlinings = rows.overlinings;
@@ -61,7 +65,7 @@ pub(crate) fn plain(lines: &mut [u16; 144], code: u8, rows: Rows) -> Verdict
         return Verdict::DoubleFour;
     }
     if more_than_one(twos) {
-        if trial(lines, code, twos) {
+        if trial(lines, table, code, twos) {
             return Verdict::DoubleThree;
         }
     }
@@ -70,39 +74,52 @@ pub(crate) fn plain(lines: &mut [u16; 144], code: u8, rows: Rows) -> Verdict
 
 // "on the board with Black at p more than one real Three through p": the stone is put, the question asked, the stone taken off. The Twos
 // through the point are then the Threes.
-fn trial(lines: &mut [u16; 144], code: u8, twos: [u16; 4]) -> bool
-    requires { ⌜ (code < 225) × Triable (now lines) code twos ⌝ }
+fn trial(lines: &mut [u16; 144], table: &[u16; 900], code: u8, twos: [u16; 4]) -> bool
+    requires { ⌜ (code < 225) × Triable (now lines) code twos × (now table ≡ addresses) ⌝ }
     ensures { λ r. ⌜ (r ≡ realDouble strictOf (withBlack (cellsOf (now (lines .entry))) code) code)
         × (now (lines .exit) ≡ now (lines .entry)) ⌝ }
 {
-    add_on(lines, code, Player::Black);
-    let real = two_real(lines, code, twos);
-    lift_on(lines, code, Player::Black);
+    add_on(lines, table, code, Player::Black);
+    let real = two_real(lines, table, code, twos);
+    lift_on(lines, table, code, Player::Black);
     real
 }
 
 // Whether more than one of the Threes through the stone at a point is real: the first one, and one that is not next to it. No more are
 // asked about.
-pub(crate) fn two_real(lines: &mut [u16; 144], code: u8, threes: [u16; 4]) -> bool
-    requires { ⌜ Sound (now lines) × (code < 225) × (threes ≡ startMasks (rowsThrough Black Three (cellsOf (now lines)) code)) ⌝ }
+pub(crate) fn two_real(
+    lines: &mut [u16; 144],
+    table: &[u16; 900],
+    code: u8,
+    threes: [u16; 4],
+) -> bool
+    requires { ⌜ Sound (now lines) × (code < 225) × (threes ≡ startMasks (rowsThrough Black Three (cellsOf (now lines)) code))
+        × (now table ≡ addresses) ⌝ }
     ensures { λ r. ⌜ (r ≡ realDouble strictOf (cellsOf (now (lines .entry))) code) × (now (lines .exit) ≡ now (lines .entry)) ⌝ }
 {
-    let first = first_real(lines, code, threes, 0);
+    let first = first_real(lines, table, code, threes, 0);
     if first < 64 {
-        return first_real(lines, code, threes, first + 2) < 64;
+        return first_real(lines, table, code, threes, first + 2) < 64;
     }
     false
 }
 
 // The number of the first real Three from a number on, 64 where there is none.
-fn first_real(lines: &mut [u16; 144], code: u8, threes: [u16; 4], from: u8) -> u8
-    requires { ⌜ Sound (now lines) × (code < 225) × (threes ≡ startMasks (rowsThrough Black Three (cellsOf (now lines)) code)) ⌝ }
+fn first_real(
+    lines: &mut [u16; 144],
+    table: &[u16; 900],
+    code: u8,
+    threes: [u16; 4],
+    from: u8,
+) -> u8
+    requires { ⌜ Sound (now lines) × (code < 225) × (threes ≡ startMasks (rowsThrough Black Three (cellsOf (now lines)) code))
+        × (now table ≡ addresses) ⌝ }
     ensures { λ r. ⌜ (r ≡ nextFrom (numbered (realThrees strictOf (cellsOf (now (lines .entry))) code)) from)
         × (now (lines .exit) ≡ now (lines .entry)) ⌝ }
 {
     let mut three = next_start(threes, from);
     while three < 64 {
-        if is_real(lines, code, three) {
+        if is_real(lines, table, code, three) {
             return three;
         }
         three = next_start(threes, three + 1);
@@ -111,12 +128,12 @@ fn first_real(lines: &mut [u16; 144], code: u8, threes: [u16; 4], from: u8) -> u
 }
 
 // "A Three is real when the strict verdict at its one eye, on that board, is none."
-fn is_real(lines: &mut [u16; 144], code: u8, three: u8) -> bool
+fn is_real(lines: &mut [u16; 144], table: &[u16; 900], code: u8, three: u8) -> bool
     requires { ⌜ Sound (now lines) × (code < 225) × (three < 64)
-        × T (rowsThrough Black Three (cellsOf (now lines)) code (three / 16) (three % 16)) ⌝ }
+        × T (rowsThrough Black Three (cellsOf (now lines)) code (three / 16) (three % 16)) × (now table ≡ addresses) ⌝ }
     ensures { λ r. ⌜ (r ≡ isReal strictOf (cellsOf (now (lines .entry))) code (three / 16) (three % 16))
         × (now (lines .exit) ≡ now (lines .entry)) ⌝ }
 {
-    let eye = eye_on(lines, code, three);
-    strict(lines, eye).is_none()
+    let eye = eye_on(lines, table, code, three);
+    strict(lines, table, eye).is_none()
 }

@@ -4,6 +4,7 @@ use super::single::lines_if;
 use super::single::strict_of;
 use lent::keep;
 use masks::bit_at;
+use point::addresses;
 use rules::Verdict;
 use sweep::is_marked;
 use sweep::marked_columns;
@@ -15,6 +16,7 @@ ghost use lib.Dec.{T};
 ghost use Rattle.rules.specs.Numbers.{isNone};
 ghost use Rattle.rules.specs.Forbidden.{strictOf, forbiddenList};
 ghost use Rattle.lent.specs.Lists.{Held};
+ghost use Rattle.point.specs.Places.{addresses};
 ghost use Rattle.grid.specs.Lines.{linesOf};
 ghost use Rattle.sweep.specs.Marks.{marks, askedAt};
 ghost use Rattle.referee.specs.Referee.{columnsOf};
@@ -41,7 +43,8 @@ pub(crate) fn forbidden_pairs(cells: &[u8]) -> Pairs
     }
     let built = are_many(columns);
     let mut lines = lines_if(built, cells);
-    asked_pairs(cells, &mut lines, built, &asked, columns)
+    let table = addresses();
+    asked_pairs(cells, &mut lines, &table, built, &asked, columns)
 }
 
 // Whether the points to ask about lie in so many columns that it pays to build the lines for all of them. A game's board has about one
@@ -54,12 +57,13 @@ fn are_many(columns: u16) -> bool {
 fn asked_pairs(
     cells: &[u8],
     lines: &mut [u16; 144],
+    table: &[u16; 900],
     built: bool,
     asked: &[u16; 26],
     columns: u16,
 ) -> Pairs
     requires { ⌜ Cells (now cells) × (T built → now lines ≡ linesOf (now cells)) × (now asked ≡ marks (askedAt (now cells)))
-        × (columns ≡ columnsOf (now asked)) ⌝ }
+        × (columns ≡ columnsOf (now asked)) × (now table ≡ addresses) ⌝ }
     ensures { λ r. ⌜ Held 450 (forbiddenList (now (cells .entry))) (r .bytes) (r .len) ⌝ }
 {
     let mut bytes = [0u8; 450];
@@ -67,7 +71,7 @@ fn asked_pairs(
     let mut p = 0u8;
     while p < 225 {
         if bit_at(columns, p / 15) {
-            let verdict = verdict_at(cells, lines, built, asked, p);
+            let verdict = verdict_at(cells, lines, table, built, asked, p);
             n = keep(&mut bytes, n, is_kind(verdict), &[verdict.number(), p]);
             p += 1;
         } else {
@@ -81,17 +85,18 @@ fn asked_pairs(
 fn verdict_at(
     cells: &[u8],
     lines: &mut [u16; 144],
+    table: &[u16; 900],
     built: bool,
     asked: &[u16; 26],
     code: u8,
 ) -> Verdict
     requires { ⌜ Cells (now cells) × (code < 225) × (T built → now lines ≡ linesOf (now cells))
-        × (now asked ≡ marks (askedAt (now cells))) ⌝ }
+        × (now asked ≡ marks (askedAt (now cells))) × (now table ≡ addresses) ⌝ }
     ensures { λ r. ⌜ (r ≡ strictOf (now (cells .entry)) code) × (now (lines .exit) ≡ now (lines .entry)) ⌝ }
 {
     if is_marked(asked, code) {
         if built {
-            return strict(lines, code);
+            return strict(lines, table, code);
         }
         return strict_of(cells, code);
     }

@@ -2,6 +2,7 @@
 use super::cycle::strict;
 use grid::cell_on;
 use grid::lines_refusal;
+use point::addresses;
 use point::code_refusal;
 use rules::TestAnswer;
 use rules::VerdictAnswer;
@@ -23,7 +24,8 @@ pub(crate) fn strict_on(lines: &mut [u16; 144], code: u8) -> VerdictAnswer
     if refused != 0 {
         return VerdictAnswer::Refused(refused);
     }
-    VerdictAnswer::Is(strict(lines, code))
+    let table = addresses();
+    VerdictAnswer::Is(strict(lines, &table, code))
 }
 
 // Whether a stone may be tried there, which it may at an empty point, or a refusal. Nothing is written; the lines are lent as a thin

@@ -6,6 +6,7 @@ use grid::put_on;
 use grid::row_starts_on;
 use near::Rows;
 use near::rows_near;
+use point::addresses;
 use rules::Player;
 use rules::RowKind;
 use rules::Verdict;
@@ -14,16 +15,17 @@ ghost use Prim.Native.Nat.{_<_};
 ghost use lib.ListN.{getD};
 ghost use Rattle.rules.specs.Forbidden.{strictOf, plainOf, realDouble, blackRows};
 ghost use Rattle.near.specs.Rows.{RowsAre};
+ghost use Rattle.point.specs.Places.{addresses};
 ghost use Rattle.grid.specs.Lines.{cellsOf, Sound, writeOn};
 
 // The four kinds that the verdict is told by.
-pub(crate) fn rows_on(lines: &[u16; 144], code: u8) -> Rows
-    requires { ⌜ Sound (now lines) × (code < 225) ⌝ }
+pub(crate) fn rows_on(lines: &[u16; 144], table: &[u16; 900], code: u8) -> Rows
+    requires { ⌜ Sound (now lines) × (code < 225) × (now table ≡ addresses) ⌝ }
     ensures { λ r. ⌜ RowsAre (blackRows (cellsOf (now (lines .entry))) code) r ⌝ }
 {
     rows_near(
-        masks_on(lines, code, Player::Black),
-        masks_on(lines, code, Player::White),
+        masks_on(lines, table, code, Player::Black),
+        masks_on(lines, table, code, Player::White),
         code,
         true,
     )
@@ -34,8 +36,9 @@ pub(crate) fn plain_on(lines: &mut [u16; 144], code: u8) -> Verdict
     requires { ⌜ Sound (now lines) × (code < 225) × (getD (cellsOf (now lines)) code 0 ≡ 0) ⌝ }
     ensures { λ r. ⌜ (r ≡ plainOf (cellsOf (now (lines .entry))) code) × (now (lines .exit) ≡ now (lines .entry)) ⌝ }
 {
-    let rows = rows_on(lines, code);
-    plain(lines, code, rows)
+    let table = addresses();
+    let rows = rows_on(lines, &table, code);
+    plain(lines, &table, code, rows)
 }
 
 // Whether more than one real Three goes through the stone at a point.
@@ -44,7 +47,8 @@ pub(crate) fn real_on(lines: &mut [u16; 144], code: u8) -> bool
     ensures { λ r. ⌜ (r ≡ realDouble strictOf (cellsOf (now (lines .entry))) code) × (now (lines .exit) ≡ now (lines .entry)) ⌝ }
 {
     let threes = row_starts_on(lines, code, Player::Black, RowKind::Three);
-    two_real(lines, code, threes)
+    let table = addresses();
+    two_real(lines, &table, code, threes)
 }
 
 // A black stone at a point, in place of what stood there. A function of the lines and the code alone, as the shared walk of `thin` wants.

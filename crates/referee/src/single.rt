@@ -5,6 +5,7 @@ use near::Rows;
 use near::more_than_one;
 use near::rows_near;
 use near::some_row;
+use point::addresses;
 use point::cell_no;
 use point::line_no;
 use point::line_size;
@@ -43,7 +44,8 @@ pub(crate) fn strict_of(cells: &[u8], code: u8) -> Verdict
     if may_forbid(rows) {
         let twos = rows.twos;
         let mut lines = lines_if(more_than_one(twos), cells);
-        return strict_by(&mut lines, code, rows);
+        let table = addresses();
+        return strict_by(&mut lines, &table, code, rows);
     }
     Verdict::None
 }

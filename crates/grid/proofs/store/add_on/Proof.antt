@@ -1,5 +1,5 @@
 -- `grid::store::add_on` meets its contract: four bits set, one after the other. Assumes nothing.
-use Rattle.grid.specs.Lines.{markOn}
+use Rattle.grid.specs.Lines.{markBy}
 use borrow.Author.Needs.{needs}
 use Rattle.grid.proofs.store.add_on.Statement.{statement}
 use Rattle.grid.proofs.store.add_on.Tie as tie
@@ -17,7 +17,7 @@ mark-along-requires-4 : tie.Need-mark-along-requires-4
 mark-along-requires-4 c κs = search needs
 
 returns : tie.Need-returns
-unfolding markOn
+unfolding markBy
 returns c = rw (
   c .mark-along4 .ensures,
   c .before .before .mark-along3 .ensures,

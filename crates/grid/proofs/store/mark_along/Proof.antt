@@ -2,12 +2,12 @@
 use native.Mathlib.Omega.{arith}
 use denote.Ref.{now}
 use borrow.Author.Needs.{needs}
-use Rattle.grid.proofs.Placed.{entry-fits, place-mark, nowhere-mark}
+use Rattle.grid.proofs.Placed.{entry-by, marked-by, not-marked-by}
 use Rattle.grid.proofs.store.mark_along.Statement.{statement}
 use Rattle.grid.proofs.store.mark_along.Tie as tie
 
-address-requires : tie.Need-address-requires
-address-requires c κs = search needs
+address-by-requires : tie.Need-address-by-requires
+address-by-requires c κs = search needs
 
 entry-no-requires : tie.Need-entry-no-requires
 entry-no-requires c κs = search needs
@@ -17,7 +17,7 @@ element-copy-out-set-bit c =
     let s = c .before .before in
     let a = s .before .args in
     rw (c .entry-no .ensures)
-    (entry-fits (s .address .result) (a .d) (a .code) (s .address .ensures) (a .player) (s .before .pre) (c .before .if1 .taken))
+    (entry-by (s .address-by .result) (now (a .table)) (a .d) (a .code) (s .address-by .ensures) (a .player))
 
 mul-set-bit : tie.Need-mul-set-bit
 mul-set-bit c = let h = element-copy-out-set-bit c in omega arith
@@ -36,20 +36,20 @@ returns c =
     let s = c .before .before .before .before in
     let a = s .before .args in
     rw (c .set-bit .ensures, c .before .before .entry-no .ensures)
-    (place-mark (s .address .result) (a .d) (a .code) (s .address .ensures) (now (a .lines)) (a .player) (a .on)
+    (marked-by (s .address-by .result) (now (a .table)) (a .d) (a .code) (s .address-by .ensures) (now (a .lines)) (a .player) (a .on)
     (c .before .before .before .if1 .taken))
 
 returns-2 : tie.Need-returns-2
 returns-2 c =
     let a = c .before .before .args in
-    nowhere-mark (c .before .address .result) (a .d) (a .code) (c .before .address .ensures) (now (a .lines)) (a .player) (a .on)
-    (c .if1 .left)
+    not-marked-by (c .before .address-by .result) (now (a .table)) (a .d) (a .code) (c .before .address-by .ensures) (now (a .lines))
+    (a .player) (a .on) (c .if1 .left)
 
 pub mark-along-spec : {M : Type 1} → statement M
 mark-along-spec =
     tie.close
     (tie.spec
-    address-requires
+    address-by-requires
     entry-no-requires
     mul-set-bit
     element-copy-out-set-bit

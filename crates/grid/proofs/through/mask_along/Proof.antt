@@ -2,12 +2,12 @@
 use native.Mathlib.Omega.{arith}
 use denote.Ref.{now}
 use borrow.Author.Needs.{needs}
-use Rattle.grid.proofs.Placed.{entry-fits, place-mask, nowhere-mask}
+use Rattle.grid.proofs.Placed.{entry-by, mask-by, no-mask-by}
 use Rattle.grid.proofs.through.mask_along.Statement.{statement}
 use Rattle.grid.proofs.through.mask_along.Tie as tie
 
-address-requires : tie.Need-address-requires
-address-requires c κs = search needs
+address-by-requires : tie.Need-address-by-requires
+address-by-requires c κs = search needs
 
 entry-no-requires : tie.Need-entry-no-requires
 entry-no-requires c κs = search needs
@@ -17,7 +17,7 @@ element-copy-out-result c =
     let s = c .before .before in
     let a = s .before .args in
     rw (c .entry-no .ensures)
-    (entry-fits (s .address .result) (a .d) (a .code) (s .address .ensures) (a .player) (s .before .pre) (c .before .if1 .taken))
+    (entry-by (s .address-by .result) (now (a .table)) (a .d) (a .code) (s .address-by .ensures) (a .player))
 
 mul-result : tie.Need-mul-result
 mul-result c = let h = element-copy-out-result c in omega arith
@@ -27,19 +27,20 @@ returns c =
     let s = c .before .before .before in
     let a = s .before .args in
     rw (c .before .entry-no .ensures)
-    (place-mask (s .address .result) (a .d) (a .code) (s .address .ensures) (now (a .lines)) (a .player) (s .before .pre)
+    (mask-by (s .address-by .result) (now (a .table)) (a .d) (a .code) (s .address-by .ensures) (now (a .lines)) (a .player)
     (c .before .before .if1 .taken))
 
 returns-2 : tie.Need-returns-2
 returns-2 c =
     let a = c .before .before .args in
-    nowhere-mask (c .before .address .result) (a .d) (a .code) (c .before .address .ensures) (now (a .lines)) (a .player) (c .if1 .left)
+    no-mask-by (c .before .address-by .result) (now (a .table)) (a .d) (a .code) (c .before .address-by .ensures) (now (a .lines))
+    (a .player) (c .if1 .left)
 
 pub mask-along-spec : {M : Type 1} → statement M
 mask-along-spec =
     tie.close
     (tie.spec
-    address-requires
+    address-by-requires
     entry-no-requires
     mul-result
     element-copy-out-result

@@ -1,6 +1,6 @@
 -- `grid::through::masks_on` meets its contract: one mask for each direction. Assumes nothing.
 use Rattle.rules.specs.Tools.{tab}
-use Rattle.grid.specs.Lines.{masksThrough}
+use Rattle.grid.specs.Lines.{masksBy}
 use borrow.Author.Needs.{needs}
 use Rattle.grid.proofs.through.masks_on.Statement.{statement}
 use Rattle.grid.proofs.through.masks_on.Tie as tie
@@ -18,7 +18,7 @@ mask-along-requires-4 : tie.Need-mask-along-requires-4
 mask-along-requires-4 c κs = search needs
 
 returns : tie.Need-returns
-unfolding masksThrough tab
+unfolding masksBy tab
 returns c = rw (
   c .mask-along4 .ensures,
   c .before .mask-along3 .ensures,

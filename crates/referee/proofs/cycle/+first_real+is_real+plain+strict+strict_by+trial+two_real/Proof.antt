@@ -61,82 +61,82 @@ use Rattle.referee.proofs.cycle.+first_real+is_real+plain+strict+strict
   close,
 }
 
-abbrev μ-first-real : Measures 1 first-real-kinds.ps ℕ
+abbrev μ-first-real : Measures 2 first-real-kinds.ps ℕ
 μ-first-real κs a = 7 * empties (cellsOf (a .0 .now)) + 6
 
-abbrev μ-is-real : Measures 1 is-real-kinds.ps ℕ
+abbrev μ-is-real : Measures 2 is-real-kinds.ps ℕ
 μ-is-real κs a = 7 * empties (cellsOf (a .0 .now)) + 5
 
-abbrev μ-plain : Measures 1 plain-kinds.ps ℕ
+abbrev μ-plain : Measures 2 plain-kinds.ps ℕ
 μ-plain κs a = 7 * empties (cellsOf (a .0 .now)) + 2
 
-abbrev μ-strict : Measures 1 strict-kinds.ps ℕ
+abbrev μ-strict : Measures 2 strict-kinds.ps ℕ
 μ-strict κs a = 7 * empties (cellsOf (a .0 .now)) + 4
 
-abbrev μ-strict-by : Measures 1 strict-by-kinds.ps ℕ
+abbrev μ-strict-by : Measures 2 strict-by-kinds.ps ℕ
 μ-strict-by κs a = 7 * empties (cellsOf (a .0 .now)) + 3
 
-abbrev μ-trial : Measures 1 trial-kinds.ps ℕ
+abbrev μ-trial : Measures 2 trial-kinds.ps ℕ
 μ-trial κs a = 7 * empties (cellsOf (a .0 .now)) + 1
 
-abbrev μ-two-real : Measures 1 two-real-kinds.ps ℕ
+abbrev μ-two-real : Measures 2 two-real-kinds.ps ℕ
 μ-two-real κs a = 7 * empties (cellsOf (a .0 .now)) + 7
 
-abbrev first-real-at : ℕ → In 1 first-real-kinds.ps
+abbrev first-real-at : ℕ → In 2 first-real-kinds.ps
 first-real-at t =
-    and 1 first-real-kinds.ps (is 1 first-real-kinds.ps μ-first-real t) first-real.Pre
+    and 2 first-real-kinds.ps (is 2 first-real-kinds.ps μ-first-real t) first-real.Pre
 
-abbrev first-real-below : ℕ → In 1 first-real-kinds.ps
+abbrev first-real-below : ℕ → In 2 first-real-kinds.ps
 first-real-below t =
-    and 1 first-real-kinds.ps (falls 1 first-real-kinds.ps _<_ μ-first-real t) first-real.Pre
+    and 2 first-real-kinds.ps (falls 2 first-real-kinds.ps _<_ μ-first-real t) first-real.Pre
 
-abbrev is-real-at : ℕ → In 1 is-real-kinds.ps
-is-real-at t = and 1 is-real-kinds.ps (is 1 is-real-kinds.ps μ-is-real t) is-real.Pre
+abbrev is-real-at : ℕ → In 2 is-real-kinds.ps
+is-real-at t = and 2 is-real-kinds.ps (is 2 is-real-kinds.ps μ-is-real t) is-real.Pre
 
-abbrev is-real-below : ℕ → In 1 is-real-kinds.ps
-is-real-below t = and 1 is-real-kinds.ps (falls 1 is-real-kinds.ps _<_ μ-is-real t) is-real.Pre
+abbrev is-real-below : ℕ → In 2 is-real-kinds.ps
+is-real-below t = and 2 is-real-kinds.ps (falls 2 is-real-kinds.ps _<_ μ-is-real t) is-real.Pre
 
-abbrev plain-at : ℕ → In 1 plain-kinds.ps
-plain-at t = and 1 plain-kinds.ps (is 1 plain-kinds.ps μ-plain t) plain.Pre
+abbrev plain-at : ℕ → In 2 plain-kinds.ps
+plain-at t = and 2 plain-kinds.ps (is 2 plain-kinds.ps μ-plain t) plain.Pre
 
-abbrev plain-below : ℕ → In 1 plain-kinds.ps
-plain-below t = and 1 plain-kinds.ps (falls 1 plain-kinds.ps _<_ μ-plain t) plain.Pre
+abbrev plain-below : ℕ → In 2 plain-kinds.ps
+plain-below t = and 2 plain-kinds.ps (falls 2 plain-kinds.ps _<_ μ-plain t) plain.Pre
 
-abbrev strict-at : ℕ → In 1 strict-kinds.ps
-strict-at t = and 1 strict-kinds.ps (is 1 strict-kinds.ps μ-strict t) strict.Pre
+abbrev strict-at : ℕ → In 2 strict-kinds.ps
+strict-at t = and 2 strict-kinds.ps (is 2 strict-kinds.ps μ-strict t) strict.Pre
 
-abbrev strict-below : ℕ → In 1 strict-kinds.ps
-strict-below t = and 1 strict-kinds.ps (falls 1 strict-kinds.ps _<_ μ-strict t) strict.Pre
+abbrev strict-below : ℕ → In 2 strict-kinds.ps
+strict-below t = and 2 strict-kinds.ps (falls 2 strict-kinds.ps _<_ μ-strict t) strict.Pre
 
-abbrev strict-by-at : ℕ → In 1 strict-by-kinds.ps
-strict-by-at t = and 1 strict-by-kinds.ps (is 1 strict-by-kinds.ps μ-strict-by t) strict-by.Pre
+abbrev strict-by-at : ℕ → In 2 strict-by-kinds.ps
+strict-by-at t = and 2 strict-by-kinds.ps (is 2 strict-by-kinds.ps μ-strict-by t) strict-by.Pre
 
-abbrev strict-by-below : ℕ → In 1 strict-by-kinds.ps
+abbrev strict-by-below : ℕ → In 2 strict-by-kinds.ps
 strict-by-below t =
-    and 1 strict-by-kinds.ps (falls 1 strict-by-kinds.ps _<_ μ-strict-by t) strict-by.Pre
+    and 2 strict-by-kinds.ps (falls 2 strict-by-kinds.ps _<_ μ-strict-by t) strict-by.Pre
 
-abbrev trial-at : ℕ → In 1 trial-kinds.ps
-trial-at t = and 1 trial-kinds.ps (is 1 trial-kinds.ps μ-trial t) trial.Pre
+abbrev trial-at : ℕ → In 2 trial-kinds.ps
+trial-at t = and 2 trial-kinds.ps (is 2 trial-kinds.ps μ-trial t) trial.Pre
 
-abbrev trial-below : ℕ → In 1 trial-kinds.ps
-trial-below t = and 1 trial-kinds.ps (falls 1 trial-kinds.ps _<_ μ-trial t) trial.Pre
+abbrev trial-below : ℕ → In 2 trial-kinds.ps
+trial-below t = and 2 trial-kinds.ps (falls 2 trial-kinds.ps _<_ μ-trial t) trial.Pre
 
-abbrev two-real-at : ℕ → In 1 two-real-kinds.ps
-two-real-at t = and 1 two-real-kinds.ps (is 1 two-real-kinds.ps μ-two-real t) two-real.Pre
+abbrev two-real-at : ℕ → In 2 two-real-kinds.ps
+two-real-at t = and 2 two-real-kinds.ps (is 2 two-real-kinds.ps μ-two-real t) two-real.Pre
 
-abbrev two-real-below : ℕ → In 1 two-real-kinds.ps
+abbrev two-real-below : ℕ → In 2 two-real-kinds.ps
 two-real-below t =
-    and 1 two-real-kinds.ps (falls 1 two-real-kinds.ps _<_ μ-two-real t) two-real.Pre
+    and 2 two-real-kinds.ps (falls 2 two-real-kinds.ps _<_ μ-two-real t) two-real.Pre
 
 abbrev first-real-Inv-loop : first-real-lts.InvT-loop
-first-real-Inv-loop lines₀ code threes from three₀ lines three =
+first-real-Inv-loop lines₀ table code threes from three₀ lines three =
     (lines ≡ lines₀)
     × (nextFrom (numbered (realThrees strictOf (cellsOf lines₀) code)) from
     ≡ nextFrom (numbered (realThrees strictOf (cellsOf lines₀) code)) three)
     × ((n : ℕ) × (three ≡ nextFrom (numbered (startsOf threes)) n))
 
 abbrev first-real-μ-loop : first-real-lts.MeasureT-loop
-first-real-μ-loop lines₀ code threes from three₀ lines three = 64 - three
+first-real-μ-loop lines₀ table code threes from three₀ lines three = 64 - three
 
 -- what `first-real` is told of those that it calls
 abbrev first-real-calls : ℕ → first-real-lts.Claims
@@ -204,6 +204,7 @@ first-real-is-real-requires t c κs =
         s .pre .1 .1,
         i .loop-test .taken,
         subst (λ (l : List ℕ). T (rowsThrough Black Three (cellsOf l) p (a .loop .three / 16) (a .loop .three % 16))) (sym e) three,
+        s .pre .1 .3,
       ),
     )
 
@@ -284,6 +285,7 @@ is-real-strict-requires t c κs =
         t .0,
         eye-small L (s .args .code) (s .args .three / 16) (s .args .three % 16) (t .0) (t .1) (omega (arith, t .2)) (t .3)
             (c .before .eye-on .ensures),
+        t .4,
       ),
     )
 
@@ -329,7 +331,7 @@ plain-trial-requires t c κs =
     let t = c .before in
     let s = t .before .before .before .before .before .before .before .before .before in
     let m = s .pre .0 in
-    (omega arith, (s .pre .1 .0, s .pre .1 .1 (true-T (sym (t .before .more-than-one2 .ensures) ∙ t .if3 .taken))))
+    (omega arith, (s .pre .1 .0, s .pre .1 .1 (true-T (sym (t .before .more-than-one2 .ensures) ∙ t .if3 .taken)), s .pre .1 .2))
 
 plain-returns-3 : (t : ℕ) → plain-lts.Need-returns-3 (plain-calls t) (plain-at t) plain.Post
 unfolding plainBy
@@ -399,7 +401,7 @@ strict-strict-by-requires t c κs =
     let p = s .args .code in
     let m = s .pre .0 in
     let free = sym (cell-is L p (s .pre .1 .1) (o .before .cell-on .ensures)) ∙ o .if1 .left in
-    (omega arith, (s .pre .1 .1, λ t. triable (cellsOf L) p (r .rows-on .ensures) L (s .pre .1 .0) refl free))
+    (omega arith, (s .pre .1 .1, λ t. triable (cellsOf L) p (r .rows-on .ensures) L (s .pre .1 .0) refl free, s .pre .1 .2))
 
 strict-returns-2 : (t : ℕ) → strict-lts.Need-returns-2 (strict-calls t) (strict-at t) strict.Post
 strict-returns-2 t c =
@@ -444,11 +446,11 @@ trial-two-real-requires t c κs =
     let p = s .args .code in
     let hp = s .pre .1 .0 in
     let q = s .pre .1 .1 in
-    let w = added L p (q .sound) hp (q .free) (c .before .add-on .ensures) in
+    let w = added L _ p (s .pre .1 .2) (q .sound) hp (q .free) (c .before .add-on .ensures) in
     let m = s .pre .0 in
     let f = on-fewer L p (q .sound) hp (q .free) w in (
       omega arith,
-      (on-sound L p (q .sound) hp (q .free) w, hp, on-threes L p (q .sound) hp (q .free) w (q .starts)),
+      (on-sound L p (q .sound) hp (q .free) w, hp, on-threes L p (q .sound) hp (q .free) w (q .starts), s .pre .1 .2),
     )
 
 trial-lift-on-requires : (t : ℕ) → trial-lts.Need-lift-on-requires (trial-calls t) (trial-at t) trial.Post
@@ -463,9 +465,9 @@ trial-returns t c =
     let p = s .args .code in
     let hp = s .pre .1 .0 in
     let q = s .pre .1 .1 in
-    let w = added L p (q .sound) hp (q .free) (a .add-on .ensures) in (
+    let w = added L _ p (s .pre .1 .2) (q .sound) hp (q .free) (a .add-on .ensures) in (
       r .ensures .0 ∙ ap (λ (C : List ℕ). realDouble strictOf C p) (on-cells L p (q .sound) hp (q .free) w),
-      lifted L p (q .sound) hp (q .free) (a .add-on .ensures) (r .ensures .1) (c .lift-on .ensures),
+      lifted L _ p (s .pre .1 .2) (q .sound) hp (q .free) (a .add-on .ensures) (r .ensures .1) (c .lift-on .ensures),
     )
 
 two-real-first-real-requires : (t : ℕ) → two-real-lts.Need-first-real-requires (two-real-calls t) (two-real-at t) two-real.Post

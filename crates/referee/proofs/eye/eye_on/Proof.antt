@@ -3,6 +3,7 @@ use borrow.Author.Needs.{needs}
 use mathlib.Core.Path.{_∙_}
 use native.Mathlib.Omega.{arith}
 use Prim.Native.Nat.{_/_, _%_}
+use Rattle.grid.proofs.Placed.{by-addresses}
 use Rattle.referee.proofs.EyeFound.{eye-found, eye-steps}
 use Rattle.referee.proofs.eye.eye_on.Statement.{statement}
 use Rattle.referee.proofs.eye.eye_on.Tie as tie
@@ -11,11 +12,10 @@ use Rattle.referee.proofs.eye.eye_on.Lts as lts
 use Rattle.grid.proofs.mask_on.Reads as mask-on-reads
 use Rattle.near.proofs.first_gap.Reads as first-gap-reads
 use Rattle.point.proofs.step_in.Reads as step-in-reads
-use Rattle.point.proofs.address.Reads as address-reads
 use Rattle.referee.proofs.eye.walked.Reads as walked-reads
 
-address-requires : tie.Need-address-requires
-address-requires c κs = search needs
+address-by-requires : tie.Need-address-by-requires
+address-by-requires c κs = search needs
 
 mask-on-requires : tie.Need-mask-on-requires
 mask-on-requires c κs = search needs
@@ -35,7 +35,7 @@ walked-requires c κs =
     let s = here .before in
     eye-steps (s .args .lines .now) (s .args .code) (s .args .three / 16) (s .args .three % 16) (s .pre .0) (s .pre .1)
     (omega (arith, s .pre .2))
-    (s .pre .3) (here .address .ensures) (mask .mask-on .ensures) (gap .first-gap .ensures) (step .step-in .ensures)
+    (s .pre .3) (by-addresses (s .args .three / 16) (s .args .code) (here .address-by .ensures) (s .pre .4)) (mask .mask-on .ensures) (gap .first-gap .ensures) (step .step-in .ensures)
 
 returns : tie.Need-returns
 returns c =
@@ -46,13 +46,13 @@ returns c =
     let s = here .before in
     c .walked .ensures ∙ eye-found (s .args .lines .now) (s .args .code) (s .args .three / 16) (s .args .three % 16) (s .pre .0)
     (s .pre .1) (omega (arith, s .pre .2))
-    (s .pre .3) (here .address .ensures) (mask .mask-on .ensures) (gap .first-gap .ensures) (step .step-in .ensures)
+    (s .pre .3) (by-addresses (s .args .three / 16) (s .args .code) (here .address-by .ensures) (s .pre .4)) (mask .mask-on .ensures) (gap .first-gap .ensures) (step .step-in .ensures)
 
 pub eye-on-spec : {M : Type 1} → statement M
 eye-on-spec =
     tie.close
     (tie.spec
-    address-requires
+    address-by-requires
     mask-on-requires
     first-gap-requires
     step-in-requires

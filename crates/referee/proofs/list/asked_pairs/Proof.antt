@@ -21,11 +21,11 @@ use Rattle.referee.proofs.list.verdict_at.Reads as verdict-at-reads
 use Rattle.rules.proofs.Verdict.number.Reads as number-reads
 
 abbrev Inv-loop : tie.InvT-loop
-Inv-loop cells lines₀ built asked columns bytes₀ n₀ p₀ lines bytes n p =
+Inv-loop cells lines₀ table built asked columns bytes₀ n₀ p₀ lines bytes n p =
     (lines ≡ lines₀) × (p ≤ 225) × Wrote (zeros 450) 0 (gather p (λ q. entry (strictOf cells q) q)) bytes n
 
 abbrev μ-loop : tie.MeasureT-loop
-μ-loop cells lines₀ built asked columns bytes₀ n₀ p₀ lines bytes n p = 225 - p
+μ-loop cells lines₀ table built asked columns bytes₀ n₀ p₀ lines bytes n p = 225 - p
 
 loop-holds : tie.Need-loop-holds Inv-loop μ-loop
 unfolding zeros
@@ -39,7 +39,7 @@ verdict-at-requires c κs =
     let i = c .before .before .before in
     let a = i .before in
     let s = a .before .before in
-    (s .pre .0, i .loop-test .taken, (λ t. a .loop .inv .0 ∙ s .pre .1 t), s .pre .2)
+    (s .pre .0, i .loop-test .taken, (λ t. a .loop .inv .0 ∙ s .pre .1 t), s .pre .2, s .pre .4)
 
 slice-aggregate-keep : tie.Need-slice-aggregate-keep Inv-loop μ-loop
 slice-aggregate-keep c = wrote-length 450 (c .before .before .before .before .before .before .loop .inv .2)

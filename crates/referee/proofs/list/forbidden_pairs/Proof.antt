@@ -38,16 +38,21 @@ are-many-requires c κs = search needs
 lines-if-requires : tie.Need-lines-if-requires
 lines-if-requires c κs = search needs
 
+addresses-requires : tie.Need-addresses-requires
+addresses-requires c κs = search needs
+
 asked-pairs-requires : tie.Need-asked-pairs-requires
 unfolding columnsOf
 asked-pairs-requires c κs =
-    let o = c .before .before in
+    let t = c .before .before .before in
+    let o = t .before in
     let m = o .before .before .before in
     let s = m .before .before .before .before in (
       s .pre,
-      (λ t. lines-wanted (o .before .are-many .result) (s .args .cells .now) (o .lines-if .ensures) t),
+      (λ h. lines-wanted (o .before .are-many .result) (s .args .cells .now) (o .lines-if .ensures) h),
       m .before .before .sweep-points .ensures,
       m .marked-columns .ensures,
+      t .addresses .ensures,
     )
 
 returns-2 : tie.Need-returns-2
@@ -62,5 +67,6 @@ forbidden-pairs-spec =
     returns
     are-many-requires
     lines-if-requires
+    addresses-requires
     asked-pairs-requires
     returns-2)

@@ -19,7 +19,7 @@ strict-requires : tie.Need-strict-requires
 strict-requires c κs =
     let b = c .before in
     let s = b .before .before .before .before in
-    (lines-of-sound (s .args .cells .now) (s .args .code) (s .pre .0) (s .pre .1) (s .pre .2 (true-T (b .if2 .taken))), s .pre .1)
+    (lines-of-sound (s .args .cells .now) (s .args .code) (s .pre .0) (s .pre .1) (s .pre .2 (true-T (b .if2 .taken))), s .pre .1, s .pre .4)
 
 returns : tie.Need-returns
 returns c =

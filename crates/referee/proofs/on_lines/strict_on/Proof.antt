@@ -12,16 +12,21 @@ refusal-on-requires c κs = search needs
 returns : tie.Need-returns
 returns c = (not-ruled _ (c .before .refusal-on .ensures) (c .if1 .taken), refl)
 
+addresses-requires : tie.Need-addresses-requires
+addresses-requires c κs = search needs
+
 strict-requires : tie.Need-strict-requires
 strict-requires c κs =
-    let o = c .before in
+    let t = c .before .before in
+    let o = t .before in
     let s = o .before .before .before in
-    lines-at-in (s .args .lines .now) (s .args .code) (sym (o .before .refusal-on .ensures) ∙ o .if1 .left)
+    let (sound, point) = lines-at-in (s .args .lines .now) (s .args .code) (sym (o .before .refusal-on .ensures) ∙ o .if1 .left) in
+    (sound, point, t .addresses .ensures)
 
 returns-2 : tie.Need-returns-2
 returns-2 c =
-    let o = c .before .before in
+    let o = c .before .before .before .before in
     (ruled _ (o .before .refusal-on .ensures) (o .if1 .left) (c .strict .ensures .0), c .strict .ensures .1)
 
 pub strict-on-spec : {M : Type 1} → statement M
-strict-on-spec = tie.close (tie.spec refusal-on-requires returns strict-requires returns-2)
+strict-on-spec = tie.close (tie.spec refusal-on-requires returns addresses-requires strict-requires returns-2)

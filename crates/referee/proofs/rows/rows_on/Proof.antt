@@ -5,6 +5,7 @@ use mathlib.Core.List.{List}
 use Prim.Native.Nat.{ℕ}
 use Rattle.rules.specs.declared.Player.the-variants.{Black, White}
 use Rattle.grid.specs.Lines.{cellsOf}
+use Rattle.grid.proofs.Placed.{masks-by}
 use Rattle.referee.specs.Referee.{MasksOf}
 use Rattle.referee.proofs.RowsSeen.{rows-seen, masks-sound}
 use Rattle.referee.proofs.rows.rows_on.Statement.{statement}
@@ -30,8 +31,8 @@ returns c =
     let l = s .args .lines .now in
     let p = s .args .code in
     rows-seen Black (cellsOf l) _ _ p (s .pre .1)
-    (subst (MasksOf Black (cellsOf l) p) (sym (b .masks-on .ensures)) (masks-sound Black l p (s .pre .0) (s .pre .1)))
-    (subst (MasksOf White (cellsOf l) p) (sym (c .before .masks-on2 .ensures)) (masks-sound White l p (s .pre .0) (s .pre .1)))
+    (subst (MasksOf Black (cellsOf l) p) (sym (b .masks-on .ensures ∙ masks-by l _ p Black (s .pre .2))) (masks-sound Black l p (s .pre .0) (s .pre .1)))
+    (subst (MasksOf White (cellsOf l) p) (sym (c .before .masks-on2 .ensures ∙ masks-by l _ p White (s .pre .2))) (masks-sound White l p (s .pre .0) (s .pre .1)))
     (c .rows-near .ensures)
 
 pub rows-on-spec : {M : Type 1} → statement M

@@ -39,9 +39,13 @@ more-than-one-requires c κs = search needs
 lines-if-requires : tie.Need-lines-if-requires
 lines-if-requires c κs = search needs
 
+addresses-requires : tie.Need-addresses-requires
+addresses-requires c κs = search needs
+
 strict-by-requires : tie.Need-strict-by-requires
 strict-by-requires c κs =
-    let b = c .before in
+    let a = c .before .before in
+    let b = a .before in
     let m = b .before in
     let r = m .before .before .before .before in
     let o = r .before in
@@ -54,11 +58,12 @@ strict-by-requires c κs =
           let l = lines-wanted (m .more-than-one .result) cells (b .lines-if .ensures) (along (sym (m .more-than-one .ensures)) t) in
           triable cells p (r .rows-of .ensures) (b .lines-if .result) (lines-of-sound cells p (s .pre .0) hp l)
           (lines-of-cells cells p (s .pre .0) hp l) (o .if1 .left)),
+      a .addresses .ensures,
     )
 
 returns-2 : tie.Need-returns-2
 returns-2 c =
-    let b = c .before .before in
+    let b = c .before .before .before .before in
     let m = b .before in
     let r = m .before .before .before .before in
     let o = r .before in
@@ -90,6 +95,7 @@ strict-of-spec =
     may-forbid-requires
     more-than-one-requires
     lines-if-requires
+    addresses-requires
     strict-by-requires
     returns-2
     returns-3)
