@@ -46,6 +46,8 @@ extern "C" {
 #define RENJU_ROW 4       /* a row in a list: key, start, stones mask, eyes mask */
 #define RENJU_ROWS 572    /* a board has at most so many rows of a kind */
 #define RENJU_ROWS_ON 20  /* .. and so many go through one point */
+#define RENJU_MOVES 225   /* a game has at most so many moves */
+#define RENJU_REPORT 228  /* the report of a game: number, reason, winner, cells */
 
 /* Why a question was refused. */
 enum renju_refusals {
@@ -61,7 +63,8 @@ enum renju_refusals {
     RENJU_PLACE = 10,      /* a line's size outside 5 to 15; a cell not on it */
     RENJU_OCCUPIED = 11,   /* the plain verdict at an occupied point */
     RENJU_NUMBER = 12,     /* no such view, distance, colour or row kind */
-    RENJU_OUTPUT = 13      /* a lent output shorter than the whole answer */
+    RENJU_OUTPUT = 13,     /* a lent output shorter than the whole answer */
+    RENJU_MANY_MOVES = 14  /* more than 225 moves */
 };
 
 /* What is on a cell; the last two are the colours. */
@@ -85,6 +88,14 @@ enum renju_verdicts {
     RENJU_DOUBLE_THREE = 1,
     RENJU_DOUBLE_FOUR = 2,
     RENJU_OVERLINE = 3
+};
+
+/* Why a move of a game is faulty; where several apply, the first of these. */
+enum renju_reasons {
+    RENJU_REASON_NONE = 0,
+    RENJU_REASON_OCCUPIED = 1,
+    RENJU_REASON_FORBIDDEN = 2,
+    RENJU_REASON_AFTER_FIVE = 3
 };
 
 /* The views, each with where it sends the point (x, y). */
@@ -160,6 +171,12 @@ uint32_t renju_forbidden_strict(const uint8_t *cells, size_t cells_len, uint8_t 
  * by code. Refusals 9, 13. */
 uint32_t renju_forbidden_points(const uint8_t *cells, size_t cells_len, uint8_t *out,
                                 size_t out_len);
+
+/* A whole game, its moves as codes, Black's first: the number of the first faulty move, from 1, or
+ * 0. Written to `out`, 228 bytes: that number, the reason, the winner (RENJU_EMPTY for nobody, and
+ * where a move is faulty), and the cells of the final board or of the one before the fault.
+ * Refusals 14, 8 for a code over 224 anywhere among them, 13. */
+uint32_t renju_game(const uint8_t *moves, size_t moves_len, uint8_t *out, size_t out_len);
 
 /* The cells in a view, written to `out`: 225. Refusals 9, 12, 13. */
 uint32_t renju_turn(const uint8_t *cells, size_t cells_len, uint8_t view, uint8_t *out,

@@ -44,6 +44,11 @@
 //! # Ok::<(), Refusal>(())
 //! ```
 //!
+//! # Whole games
+//!
+//! [`Game::report`] reads a list of moves to its first faulty one, or to its winner, and hands the
+//! board back.
+//!
 //! # Checks at night
 //!
 //! [`second`] asks a second referee the same about rows and verdicts: a slow one, which walks the
@@ -65,6 +70,7 @@
 
 mod cells;
 mod colour;
+mod game;
 mod kind;
 mod line;
 mod list;
@@ -81,6 +87,7 @@ mod view;
 
 pub use cells::Cells;
 pub use colour::Colour;
+pub use game::{Fault, Game, Reason, Report};
 pub use kind::Kind;
 pub use line::Line;
 pub use list::{Crosses, List, Points, Rows, RowsOn};
@@ -143,6 +150,26 @@ pub const ROWS: usize = 572;
 /// # Ok::<(), renju::Refusal>(())
 /// ```
 pub const ROWS_ON: usize = 20;
+
+/// How many moves a game may have: one for each point.
+///
+/// ```
+/// use renju::{Game, Refusal};
+///
+/// assert!(Game::from_codes(&[0; renju::MOVES]).is_ok());
+/// assert_eq!(Game::from_codes(&[0; renju::MOVES + 1]), Err(Refusal::ManyMoves));
+/// ```
+pub const MOVES: usize = 225;
+
+/// How many bytes the report of a game has: the faulty move's number, the
+/// reason, the winner, then the cells.
+///
+/// ```
+/// let mut out = [0; renju::REPORT];
+/// assert_eq!(renju::raw::renju_game(&[112, 0, 112], &mut out), 3);
+/// assert_eq!(out[..3], [3, 1, 0]);
+/// ```
+pub const REPORT: usize = 228;
 
 /// How many bytes a text may have.
 ///

@@ -101,6 +101,7 @@ mod ffi {
             out: *mut u8,
             out_len: usize,
         ) -> u32;
+        pub fn renju_game(moves: *const u8, moves_len: usize, out: *mut u8, out_len: usize) -> u32;
         pub fn renju_turn(
             cells: *const u8,
             cells_len: usize,
@@ -462,6 +463,26 @@ pub fn renju_forbidden_strict(cells: &[u8], code: u8) -> u32 {
 /// ```
 pub fn renju_forbidden_points(cells: &[u8], out: &mut [u8]) -> u32 {
     unsafe { ffi::renju_forbidden_points(cells.as_ptr(), cells.len(), out.as_mut_ptr(), out.len()) }
+}
+
+/// A whole game of codes refereed: the number of its first faulty move, from 1,
+/// or 0; 228 bytes written: that number, the reason (0 none, 1 occupied, 2
+/// forbidden to Black, 3 after a five), the winner (0 nobody, 1 Black, 2 White)
+/// and the cells, of the final board or of the one before the fault. Refusals
+/// 14, 8, 13.
+///
+/// ```
+/// # use renju::raw::*;
+/// let mut out = [0; 228];
+/// // Black plays where White stands.
+/// assert_eq!(renju_game(&[112, 113, 113], &mut out), 3);
+/// assert_eq!(out[..3], [3, 1, 0]);
+/// assert_eq!((out[3 + 112], out[3 + 113]), (1, 2));
+/// assert_eq!(renju_game(&[112, 225], &mut out), 8 << 16);
+/// assert_eq!(renju_game(&[225; 226], &mut out), 14 << 16);
+/// ```
+pub fn renju_game(moves: &[u8], out: &mut [u8]) -> u32 {
+    unsafe { ffi::renju_game(moves.as_ptr(), moves.len(), out.as_mut_ptr(), out.len()) }
 }
 
 /// The cells in a view: 225, the turned cells written. Refusals 9, 12, 13.

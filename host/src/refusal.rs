@@ -1,9 +1,10 @@
-//! The thirteen refusals, and the word that carries one or an answer.
+//! The fourteen refusals, and the word that carries one or an answer.
 
 use std::error::Error;
 use std::fmt;
 
-/// Why a question was refused: the numbers of section 2 of document 01.
+/// Why a question was refused: the numbers of section 2 of document 01, and
+/// from 14 on those of document 02.
 ///
 /// # Examples
 ///
@@ -47,18 +48,20 @@ pub enum Refusal {
     Number = 12,
     /// 13: a lent output that is shorter than the whole answer.
     Output = 13,
+    /// 14: more than 225 moves.
+    ManyMoves = 14,
 }
 
 impl Refusal {
-    /// All thirteen, by number.
+    /// All fourteen, by number.
     ///
     /// ```
     /// use renju::Refusal;
     ///
-    /// assert_eq!(Refusal::ALL.len(), 13);
+    /// assert_eq!(Refusal::ALL.len(), 14);
     /// assert_eq!(Refusal::ALL[0].number(), 1);
     /// ```
-    pub const ALL: [Self; 13] = [
+    pub const ALL: [Self; 14] = [
         Self::TextLength,
         Self::TextByte,
         Self::XPart,
@@ -72,9 +75,10 @@ impl Refusal {
         Self::Occupied,
         Self::Number,
         Self::Output,
+        Self::ManyMoves,
     ];
 
-    /// The number of document 01, 1 to 13.
+    /// Its number, 1 to 14.
     ///
     /// ```
     /// assert_eq!(renju::Refusal::Occupied.number(), 11);
@@ -83,7 +87,7 @@ impl Refusal {
         self as u8
     }
 
-    /// The refusal of a number; none for 0 and for a number over 13.
+    /// The refusal of a number; none for 0 and for a number over 14.
     ///
     /// ```
     /// use renju::Refusal;
@@ -106,6 +110,7 @@ impl Refusal {
             11 => Self::Occupied,
             12 => Self::Number,
             13 => Self::Output,
+            14 => Self::ManyMoves,
             _ => return None,
         })
     }
@@ -132,6 +137,7 @@ impl Refusal {
             Self::Occupied => "the point is occupied",
             Self::Number => "no such view, distance, colour or row kind",
             Self::Output => "the lent output is too short",
+            Self::ManyMoves => "the game has more than 225 moves",
         }
     }
 }
@@ -165,7 +171,7 @@ pub const fn answer(word: u32) -> Result<u16, Refusal> {
     if refused == 0 {
         return Ok(answer);
     }
-    // No function gives a number over 13, so each has its own refusal here.
+    // No function gives a number over 14, so each has its own refusal here.
     match Refusal::from_number(refused as u8) {
         Some(refusal) => Err(refusal),
         None => Err(Refusal::Output),

@@ -1,7 +1,8 @@
 //! The same functions in the C header, raw.rs and the archive's source; the same numbers in C and
 //! Rust.
 
-use renju::{CELLS, Colour, DIAGRAM, Kind, PRETTY, ROWS, ROWS_ON, Refusal, TEXT, Verdict, View};
+use renju::{CELLS, Colour, DIAGRAM, Kind, MOVES, PRETTY, REPORT, ROWS, ROWS_ON};
+use renju::{Reason, Refusal, TEXT, Verdict, View};
 use std::collections::BTreeMap;
 use std::fs;
 use std::path::Path;
@@ -121,7 +122,7 @@ fn parameter_in_c(parameter: &str) -> String {
 #[test]
 fn same_functions() {
     let header = header_prototypes();
-    assert_eq!(header.len(), 25);
+    assert_eq!(header.len(), 26);
     assert_eq!(header, raw_prototypes());
     assert_eq!(header, source_prototypes());
 }
@@ -181,6 +182,9 @@ fn same_numbers() {
             ("RENJU_ROW", 4),
             ("RENJU_ROWS", ROWS),
             ("RENJU_ROWS_ON", ROWS_ON),
+            ("RENJU_MOVES", MOVES),
+            ("RENJU_REPORT", REPORT),
+            ("RENJU_REASON_NONE", 0),
         ]
         .map(|(name, number)| (name.to_owned(), number)),
     );
@@ -189,7 +193,10 @@ fn same_numbers() {
     let kinds = Kind::ALL.map(|of| (name_in_c(of), of.number()));
     let views = View::ALL.map(|of| (name_in_c(of), of.number()));
     let verdicts = Verdict::ALL.map(|of| (name_in_c(of), of.number()));
-    let groups = [&refusals[..], &colours, &kinds, &views, &verdicts];
+    // Apart from the refusal of the same name.
+    let reason_in_c = |of| name_in_c(of).replacen("RENJU", "RENJU_REASON", 1);
+    let reasons = Reason::ALL.map(|of| (reason_in_c(of), of.number()));
+    let groups = [&refusals[..], &colours, &kinds, &views, &verdicts, &reasons];
     for (name, number) in groups.concat() {
         let before = ours.insert(name.clone(), usize::from(number));
         assert_eq!(before, None, "{name} twice");

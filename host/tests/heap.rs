@@ -1,6 +1,6 @@
 //! No question about a board touches the heap.
 
-use renju::{Cells, Colour, Kind, Point, View, second};
+use renju::{Cells, Colour, Game, Kind, Point, View, second};
 use std::alloc::{GlobalAlloc, Layout, System};
 use std::cell::Cell;
 use std::fmt::{self, Write};
@@ -71,6 +71,8 @@ fn ask_everything(bytes: &[u8], text: &[u8], point: Point) {
     for cross in &cells.turned(View::HalfTurn).forbidden_points() {
         write!(Nowhere, "{cross}").unwrap();
     }
+    let game = Game::new(&[point, point]).unwrap();
+    write!(Nowhere, "{}", game.report()).unwrap();
     ask_the_second(&cells, point);
     write!(Nowhere, "{cells}").unwrap();
 }

@@ -16,7 +16,7 @@ fn numbers_and_meanings() {
         assert_eq!(said, format!("refused {number}: {meaning}"));
         assert!(meanings.insert(meaning), "{meaning}, twice");
     }
-    for number in (0..=0).chain(14..=u8::MAX) {
+    for number in (0..=0).chain(15..=u8::MAX) {
         assert_eq!(Refusal::from_number(number), None);
     }
     assert_eq!(answer(65535), Ok(65535));
@@ -167,6 +167,8 @@ fn outputs_of_every_length() {
     room(60, 60, |out| renju_neighbors(cells, 112, 14, false, out));
     room(53, 53, |out| renju_neighbors(cells, 112, 14, true, out));
     room(225, 225, |out| renju_turn(cells, 3, out));
+    room(3, 228, |out| renju_game(&[112, 113, 113], out));
+    room(0, 228, |out| renju_game(&[], out));
     for referee in &REFEREES {
         room(6, 24, |out| (referee.rows)(cells, 1, 3, out));
         room(4, 16, |out| (referee.rows_on)(cells, 112, 1, 3, out));
@@ -181,7 +183,7 @@ fn refused(number: u32, ask: impl Fn(&mut [u8]) -> u32) {
     assert_eq!(kept(600, 0, &ask), number << 16);
 }
 
-/// The order of section 2: 9, 8, 12, then 11 or 13.
+/// The order of section 2: 9, 8, 12, then 11 or 13; 14 before 8.
 #[test]
 fn first_refusal_of_several() {
     let (good, bad) = good_and_bad();
@@ -196,6 +198,8 @@ fn first_refusal_of_several() {
     refused(9, |out| renju_turn(&bad, 8, out));
     refused(12, |out| renju_turn(&good, 8, out));
     refused(3, |out| renju_read(b"P8,H16", out));
+    refused(14, |out| renju_game(&[225; 226], out));
+    refused(8, |out| renju_game(&[112, 112, 225], out));
     assert_eq!(renju_turn_point(225, 8), 8 << 16);
     assert_eq!(renju_turn_point(224, 8), 12 << 16);
 }

@@ -222,6 +222,15 @@ fn choose(dice: &mut Dice, cells: &Cells, placed: &[usize], mover: u8) -> Option
 /// A game from the centre on, of at most `moves` moves, over after a five.
 pub fn game(dice: &mut Dice, moves: usize) -> Cells {
     let mut cells = [EMPTY; POINTS];
+    for (number, p) in game_moves(dice, moves).into_iter().enumerate() {
+        cells[p] = if number % 2 == 0 { BLACK } else { WHITE };
+    }
+    cells
+}
+
+/// .. its moves in turn.
+pub fn game_moves(dice: &mut Dice, moves: usize) -> Vec<usize> {
+    let mut cells = [EMPTY; POINTS];
     cells[112] = BLACK;
     let mut placed = vec![112];
     let mut mover = WHITE;
@@ -238,7 +247,7 @@ pub fn game(dice: &mut Dice, moves: usize) -> Cells {
         }
         mover = BLACK + WHITE - mover;
     }
-    cells
+    placed
 }
 
 /// A game that has reached `moves` stones: the first one that gets so far.

@@ -47,8 +47,8 @@ impl Board {
         Board::from_lines([0u16; 144])
     }
 
-    // The board that has these lines: the one place where a board is made.
-    pub(crate) fn from_lines(lines: [u16; 144]) -> Board
+    // The board that has these lines, sound or not: the one place where a board is made.
+    pub fn from_lines(lines: [u16; 144]) -> Board
         ensures { λ r. ⌜ r ≡ boardFrom lines ⌝ }
     {
         Board { lines }

@@ -8,12 +8,12 @@ use native.Mathlib.Nat.{not-suc-le-zero, le-of-suc-le-suc}
 use native.Mathlib.Numerals.{add-one}
 use native.Mathlib.Omega.{arith}
 use native.Mathlib.Decide.{ℕ-discrete}
-use lib.Dec.{T, eqb, leb, ltb, leb→le, le→leb}
+use lib.Dec.{T, eqb, leb, ltb, leb→le, le→leb, ltb→lt}
 use lib.ListN.{length, getD, set, drop, length-set, List·getD-eq-default}
 use lib.Seq.{getD-set-same, getD-set-other, drop-cons}
 use borrow.Author.Tests.{eq-eqb, ne-eqb, eqb-true, ltb-true, ltb-false}
 use Rattle.rules.specs.Numbers.{colourNo, playerOf, isColour, opponentOf}
-use Rattle.rules.specs.Refusals.{colourRefusal, codeRefusal, distanceRefusal}
+use Rattle.rules.specs.Refusals.{manyMoves, unless, colourRefusal, codeRefusal, distanceRefusal}
 use Rattle.rules.specs.Tools.{allBelow}
 use Rattle.rules.specs.Grid.{isEmpty, Change, Put, Remove, play, put, remove}
 use Rattle.rules.specs.Views.{turn, undo, turnCells}
@@ -26,7 +26,7 @@ use Rattle.lent.specs.Lists.{zeros}
 use Rattle.lent.proofs.Laws.{length-zeros, zeros-at}
 use Rattle.point.proofs.Refused.{code-in}
 use Rattle.cells.specs.Cells.{Cells, cellsRefusal, cellsRefusalAt, cellsRefusalFor, cellsNeighboursRefusal}
-use Rattle.cells.specs.Cells.{puts, movesCells, stonesCells}
+use Rattle.cells.specs.Cells.{codesRefusal, movesRefusal, puts, movesCells, stonesCells}
 use Rattle.cells.specs.Calls.{changed}
 
 -- ---- refusals: what is known where none is given
@@ -44,6 +44,16 @@ cells-in cells e =
 pub cells-at-in : (cells : List ℕ) (p : ℕ) → cellsRefusalAt cells p ≡ 0 → Cells cells × (p < 225)
 unfolding cellsRefusalAt
 cells-at-in cells p e = let q = first-none (cellsRefusal cells) (codeRefusal p) e in (cells-in cells (q .0), code-in p (q .1))
+
+-- moves that are not refused are at most 225, and each names a point
+pub moves-in : (moves : List ℕ) → movesRefusal moves ≡ 0 → (length moves ≤ 225) × ((i : ℕ) → i < length moves → getD moves i 0 < 225)
+unfolding movesRefusal codesRefusal
+moves-in moves e =
+    let q = first-none (unless (leb (length moves) 225) manyMoves) (codesRefusal moves) e in (
+      leb→le (length moves) 225 (passed (leb (length moves) 225) 13 (q .0)),
+      λ i h. ltb→lt (getD moves i 0) 225
+          (all-elim (length moves) (λ i. ltb (getD moves i 0) 225) (passed (allBelow (length moves) (λ i. ltb (getD moves i 0) 225)) 7 (q .1)) i h),
+    )
 
 pub cells-for-in : (cells : List ℕ) (p colour : ℕ) → cellsRefusalFor cells p colour ≡ 0
     → Cells cells × (p < 225) × (colourRefusal colour ≡ 0)

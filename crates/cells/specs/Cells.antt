@@ -6,7 +6,7 @@ use Prim.Native.Nat.{ℕ, _≤_, _<_}
 use lib.Dec.{eqb, leb, ltb}
 use lib.ListN.{length, getD}
 use Rattle.rules.specs.Numbers.{opponentOf}
-use Rattle.rules.specs.Refusals.{noPoint, unsound, unless, first, codeRefusal, colourRefusal, distanceRefusal}
+use Rattle.rules.specs.Refusals.{noPoint, unsound, manyMoves, unless, first, codeRefusal, colourRefusal, distanceRefusal}
 use Rattle.rules.specs.Tools.{allBelow, gather, only}
 use Rattle.rules.specs.Grid.{Change, Put, play}
 use Rattle.rules.specs.declared.Player.{Player}
@@ -27,6 +27,10 @@ cellsRefusal cells = unless (eqb (length cells) 225 && allBelow 225 (λ p. leb (
 -- "8 .. point code 225 to 255"
 unfoldable pub codesRefusal : List ℕ → ℕ
 codesRefusal codes = unless (allBelow (length codes) (λ i. ltb (getD codes i 0) 225)) noPoint
+
+-- document 02's "14 for more than 225 moves, before 8"
+unfoldable pub movesRefusal : List ℕ → ℕ
+movesRefusal moves = first (unless (leb (length moves) 225) manyMoves) (codesRefusal moves)
 
 -- of a question about a point of the cells; about a colour there; about a colour; about a point's neighbours
 unfoldable pub cellsRefusalAt : List ℕ → ℕ → ℕ

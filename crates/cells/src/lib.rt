@@ -22,3 +22,4 @@ pub use front::turned_of;
 pub use refusal::cells_refusal;
 pub use refusal::cells_refusal_at;
 pub use refusal::codes_refusal;
+pub use refusal::moves_refusal;

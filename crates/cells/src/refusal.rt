@@ -7,7 +7,7 @@ ghost use mathlib.Core.Path.{_≡_};
 ghost use lib.Dec.{leb};
 ghost use lib.ListN.{length, getD};
 ghost use Rattle.rules.specs.Tools.{allBelow};
-ghost use Rattle.cells.specs.Cells.{cellsRefusal, codesRefusal, cellsRefusalAt, cellsRefusalFor};
+ghost use Rattle.cells.specs.Cells.{cellsRefusal, codesRefusal, movesRefusal, cellsRefusalAt, cellsRefusalFor};
 ghost use Rattle.cells.specs.Cells.{cellsStonesRefusal, cellsNeighboursRefusal};
 
 // 9 for cell bytes of another length than 225, or with a byte over 2.
@@ -46,6 +46,16 @@ pub fn codes_refusal(codes: &[u8]) -> u8
         i += 1;
     }
     0
+}
+
+// 14 for more moves than there are points, then 8 for a code over 224 anywhere among them.
+pub fn moves_refusal(moves: &[u8]) -> u8
+    ensures { λ r. ⌜ r ≡ movesRefusal (now (moves .entry)) ⌝ }
+{
+    if 225 < moves.len() {
+        return 14;
+    }
+    codes_refusal(moves)
 }
 
 // 9, then 8 for a code over 224.

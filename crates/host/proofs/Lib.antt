@@ -6,3 +6,5 @@ pub mod Asked
 pub mod Words
 -- the fast referee and the second one are equal, by their contracts
 pub mod Equal
+-- a game's report handed out, byte by byte
+pub mod Handed

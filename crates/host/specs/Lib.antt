@@ -1,2 +1,3 @@
 -- What the contracts of `host` cite beside the rules.
 pub mod Answers
+pub mod Games

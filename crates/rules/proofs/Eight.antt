@@ -12,8 +12,8 @@ use lib.Seq.{getD-set-same, getD-set-other}
 use Rattle.rules.specs.Numbers.{colourNo, isBlack, opponentOf, isNone}
 use Rattle.rules.specs.Line.{Stones, rowAt, span, through, among, isEye}
 use Rattle.rules.specs.Point.{lineNo, cellNo, lineSize, pointAt}
-use Rattle.rules.specs.Grid.{Starts, stoneAt, rowOn, eyeOn, rowsThrough}
-use Rattle.rules.specs.Forbidden.{Ask, moreThanOne, mayPlay, isReal, realThrees, withBlack}
+use Rattle.rules.specs.Grid.{put, Starts, stoneAt, rowOn, eyeOn, rowsThrough}
+use Rattle.rules.specs.Forbidden.{Ask, someRow, moreThanOne, mayPlay, isReal, realThrees, withBlack}
 use Rattle.rules.specs.Forbidden.{isOverline, isDoubleFour, isDoubleThree, plainWith}
 use Rattle.rules.specs.Forbidden.{completesFive, strictWith, nestedN}
 use Rattle.rules.specs.Views.{turn, undo}
@@ -51,25 +51,25 @@ turned-back {v} {A} {B} hv t =
 pub turn-one : (v p q : ℕ) → v < 8 → p < 225 → q < 225 → turn v p ≡ turn v q → p ≡ q
 turn-one v p q hv hp hq e = sym (turn-undo v p hv hp) ∙ ap (turn (undo v)) e ∙ turn-undo v q hv hq
 
--- a black stone at the point and at the turned point
-pub turned-black : {v : ℕ} {A B : List ℕ} (p : ℕ) → v < 8 → p < 225 → Turned v A B → Turned v (withBlack A p) (withBlack B (turn v p))
-turned-black {v} {A} {B} p hv hp t =
+-- a stone of the player's at the point and at the turned point
+pub turned-put : (r : Player) {v : ℕ} {A B : List ℕ} (p : ℕ) → v < 8 → p < 225 → Turned v A B → Turned v (put r A p) (put r B (turn v p))
+turned-put r {v} {A} {B} p hv hp t =
     record {
-      lenA = length-set A p 1 ∙ t .lenA;
-      lenB = length-set B (turn v p) 1 ∙ t .lenB;
+      lenA = length-set A p (colourNo r) ∙ t .lenA;
+      lenB = length-set B (turn v p) (colourNo r) ∙ t .lenB;
       same = λ q hq. at q hq (ℕ-discrete q p);
     }
   where
-    at : (q : ℕ) → q < 225 → Dec (q ≡ p) → getD (withBlack B (turn v p)) (turn v q) 0 ≡ getD (withBlack A p) q 0
+    at : (q : ℕ) → q < 225 → Dec (q ≡ p) → getD (put r B (turn v p)) (turn v q) 0 ≡ getD (put r A p) q 0
     at q hq (yes e) =
-        ap (λ (x : ℕ). getD (withBlack B (turn v p)) (turn v x) 0) e
-        ∙ getD-set-same B (turn v p) 1 0 (subst⁻¹ (λ (n : ℕ). turn v p < n) (t .lenB) (turn-lt v p hv hp))
-        ∙ sym (getD-set-same A p 1 0 (subst⁻¹ (λ (n : ℕ). p < n) (t .lenA) hp))
-        ∙ ap (λ (x : ℕ). getD (withBlack A p) x 0) (sym e)
+        ap (λ (x : ℕ). getD (put r B (turn v p)) (turn v x) 0) e
+        ∙ getD-set-same B (turn v p) (colourNo r) 0 (subst⁻¹ (λ (n : ℕ). turn v p < n) (t .lenB) (turn-lt v p hv hp))
+        ∙ sym (getD-set-same A p (colourNo r) 0 (subst⁻¹ (λ (n : ℕ). p < n) (t .lenA) hp))
+        ∙ ap (λ (x : ℕ). getD (put r A p) x 0) (sym e)
     at q hq (no ne) =
-        getD-set-other B (turn v p) (turn v q) 1 0 (λ e. ne (turn-one v q p hv hq hp e))
+        getD-set-other B (turn v p) (turn v q) (colourNo r) 0 (λ e. ne (turn-one v q p hv hq hp e))
         ∙ t .same q hq
-        ∙ sym (getD-set-other A p q 1 0 ne)
+        ∙ sym (getD-set-other A p q (colourNo r) 0 ne)
 
 -- ---- places j and s of a line of n cells, for things of w cells: the same, or across
 
@@ -194,20 +194,21 @@ module _ (v : ℕ) (A B : List ℕ) (p d : ℕ) (hv : v < 8) (t : Turned v A B) 
       at zero m c u = subst (λ (i : ℕ). T (among (span k) s i)) c (subst (λ (i : ℕ). T (among (span k) i (cellNo d p))) m u)
       at (suc b) m c u = among-back (span k) (sizeAt d p) j s (cellNo d p) (cellNo (turnDir v d) (turn v p)) m c u
 
--- ---- starts that are rows of one kind of Black's, carried by a view
+-- ---- starts that are rows of one kind of a player's, carried by a view
 
-module _ (v : ℕ) (A B : List ℕ) (p : ℕ) (hv : v < 8) (t : Turned v A B) (hp : p < 225) (k : RowKind) (s s′ : Starts)
-    (are : (d j : ℕ) → d < 4 → T (s d j) → T (rowsThrough Black k A p d j))
-    (are′ : (d j : ℕ) → d < 4 → T (s′ d j) → T (rowsThrough Black k B (turn v p) d j))
+module _ (v : ℕ) (A B : List ℕ) (p : ℕ) (hv : v < 8) (t : Turned v A B) (hp : p < 225) (who : Player) (k : RowKind)
+    (s s′ : Starts)
+    (are : (d j : ℕ) → d < 4 → T (s d j) → T (rowsThrough who k A p d j))
+    (are′ : (d j : ℕ) → d < 4 → T (s′ d j) → T (rowsThrough who k B (turn v p) d j))
     (moves : (d j r : ℕ) → d < 4 → Moved (flips v d) (sizeAt d p) (span k) j r → T (s d j) → T (s′ (turnDir v d) r))
   where
     lands : (d r : ℕ) → d < 4 → T (s′ (turnDir v d) r) → r < 16
     lands d r hd u =
-        start-lt Black k B (turn v p) (turnDir v d) r (are′ (turnDir v d) r (dir-lt v d hv hd) u)
+        start-lt who k B (turn v p) (turnDir v d) r (are′ (turnDir v d) r (dir-lt v d hv hd) u)
 
     goes : (d j : ℕ) → d < 4 → T (s d j) → (r : ℕ) × Moved (flips v d) (sizeAt d p) (span k) j r
     goes d j hd u =
-        let f = through-inside Black k A p d j (are d j hd u) in
+        let f = through-inside who k A p d j (are d j hd u) in
         let l = span-le k in
         move (flips v d) (sizeAt d p) (span k) j (omega arith)
 
@@ -253,27 +254,29 @@ kept-eq P k v A B p hv t hp =
     (turn-lt v p hv hp) u))
     (k v A B p hv t hp)
 
-rows-carried : (k : RowKind) (v : ℕ) (A B : List ℕ) (p : ℕ) → v < 8 → Turned v A B → p < 225
-    → Carried (rowsThrough Black k A p) (rowsThrough Black k B (turn v p))
-rows-carried k v A B p hv t hp =
-    carried v A B p hv t hp k (rowsThrough Black k A p) (rowsThrough Black k B (turn v p)) (λ d j hd u. u) (λ d j hd u. u)
-    (λ d j r hd m u. through-turn v A B p d hv t hp hd Black k j r m u)
+rows-carried : (who : Player) (k : RowKind) (v : ℕ) (A B : List ℕ) (p : ℕ) → v < 8 → Turned v A B → p < 225
+    → Carried (rowsThrough who k A p) (rowsThrough who k B (turn v p))
+rows-carried who k v A B p hv t hp =
+    carried v A B p hv t hp who k (rowsThrough who k A p) (rowsThrough who k B (turn v p)) (λ d j hd u. u) (λ d j hd u. u)
+    (λ d j r hd m u. through-turn v A B p d hv t hp hd who k j r m u)
+
+-- some row of the kind goes through the point
+pub row-kept : (who : Player) (k : RowKind) → Kept (λ cells p. someRow (rowsThrough who k cells p))
+row-kept who k v A B p hv t hp u =
+    someRow-carried (rowsThrough who k A p) (rowsThrough who k B (turn v p)) (rows-carried who k v A B p hv t hp) u
 
 pub overline-kept : Kept isOverline
 unfolding isOverline
-overline-kept v A B p hv t hp u =
-    someRow-carried (rowsThrough Black Overlining A p) (rowsThrough Black Overlining B (turn v p))
-    (rows-carried Overlining v A B p hv t hp) u
+overline-kept = row-kept Black Overlining
 
 pub five-kept : Kept completesFive
 unfolding completesFive
-five-kept v A B p hv t hp u = someRow-carried (rowsThrough Black Four A p) (rowsThrough Black Four B (turn v p))
-    (rows-carried Four v A B p hv t hp) u
+five-kept = row-kept Black Four
 
 pub double-four-kept : Kept isDoubleFour
 unfolding isDoubleFour
 double-four-kept v A B p hv t hp u = more-carried (rowsThrough Black Sword A p) (rowsThrough Black Sword B (turn v p))
-    (rows-carried Sword v A B p hv t hp) u
+    (rows-carried Black Sword v A B p hv t hp) u
 
 may-kept : (ask : Ask Verdict) → Blind ask → Kept (mayPlay ask)
 unfolding mayPlay
@@ -305,7 +308,7 @@ module _ (ask : Ask Verdict) (blind : Blind ask) (v : ℕ) (A B : List ℕ) (p :
   real-carried : Carried (realThrees ask A p) (realThrees ask B (turn v p))
   unfolding realThrees
   real-carried =
-      carried v A B p hv t hp Three (realThrees ask A p) (realThrees ask B (turn v p))
+      carried v A B p hv t hp Black Three (realThrees ask A p) (realThrees ask B (turn v p))
       (λ d j hd u. and-left (rowsThrough Black Three A p d j) (isReal ask A p d j) u)
       (λ d j hd u. and-left (rowsThrough Black Three B (turn v p) d j) (isReal ask B (turn v p) d j) u)
       (λ d j r hd m u.
@@ -317,10 +320,10 @@ pub double-three-kept : (ask : Ask Verdict) → Blind ask → Kept (isDoubleThre
 unfolding isDoubleThree
 double-three-kept ask blind v A B p hv t hp u =
     and-intro (moreThanOne (rowsThrough Black Two B (turn v p))) (moreThanOne (realThrees ask (withBlack B (turn v p)) (turn v p)))
-    (more-carried (rowsThrough Black Two A p) (rowsThrough Black Two B (turn v p)) (rows-carried Two v A B p hv t hp)
+    (more-carried (rowsThrough Black Two A p) (rowsThrough Black Two B (turn v p)) (rows-carried Black Two v A B p hv t hp)
     (and-left (moreThanOne (rowsThrough Black Two A p)) (moreThanOne (realThrees ask (withBlack A p) p)) u))
     (more-carried (realThrees ask (withBlack A p) p) (realThrees ask (withBlack B (turn v p)) (turn v p))
-    (real-carried ask blind v (withBlack A p) (withBlack B (turn v p)) p hv (turned-black p hv hp t) hp)
+    (real-carried ask blind v (withBlack A p) (withBlack B (turn v p)) p hv (turned-put Black p hv hp t) hp)
     (and-right (moreThanOne (rowsThrough Black Two A p)) (moreThanOne (realThrees ask (withBlack A p) p)) u))
 
 pub plain-blind : (ask : Ask Verdict) → Blind ask → Blind (plainWith ask)

@@ -40,7 +40,7 @@ pub mod Along
 pub mod Eye
 -- that eye is the first of its four cells without a black stone
 pub mod Gap
--- the Twos through an empty point are the Threes through it once Black plays there
+-- the Twos through an empty point are the Threes through it once the player plays there, and the Fours are the Fives
 pub mod Grown
 -- a question that asks itself, whatever its answers are, is answered by as many steps as there are empty points
 pub mod Fuel
@@ -54,5 +54,7 @@ pub mod Listed
 pub mod Eight
 -- the eight views: the same verdicts at the turned point, and the turned list
 pub mod Views
+-- what a five is, for Black and for White; the Fours before the stone tell it; it is the same in all eight views
+pub mod Fives
 -- C1 to C12
 pub mod Cases

@@ -92,5 +92,5 @@ double-real cells p long hp free =
     let twos = moreThanOne (rowsThrough Black Two cells p) in
     both-ways (twos && real) real (and-right twos real) (λ t. and-intro twos real
     (more-mono (realThrees strictOf (withBlack cells p) p) (rowsThrough Black Two cells p)
-    (λ d j hd hj u. along (sym (two-three cells p d j long hp hd free))
+    (λ d j hd hj u. along (sym (two-three Black cells p d long hp hd free j))
     (and-left (rowsThrough Black Three (withBlack cells p) p d j) (isReal strictOf (withBlack cells p) p d j) u)) t) t)

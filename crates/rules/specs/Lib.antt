@@ -8,5 +8,6 @@ pub mod Line
 pub mod Point
 pub mod Grid
 pub mod Forbidden
+pub mod Fives
 pub mod Views
 pub mod Cases

@@ -1,5 +1,5 @@
 -- Section 2: the numbers given back, 0 for none, what each means, and their order. Every crate's refusals cite them from here. The quoted
--- sentences are document 01's.
+-- sentences are document 01's; from 14 on they are those of document 02.
 use mathlib.Core.Bool.{Bool, cond}
 use Prim.Native.Nat.{ℕ}
 use lib.Dec.{eqb, ltb, leb}
@@ -61,6 +61,10 @@ noNumber = 12
 -- "13 lent output shorter than the whole answer needs"
 abbrev pub noRoom : ℕ
 noRoom = 13
+
+-- "14 for more than 225 moves, before 8"
+abbrev pub manyMoves : ℕ
+manyMoves = 14
 
 -- ---- the order
 

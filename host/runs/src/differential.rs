@@ -3,7 +3,8 @@
 //! One comparison is one host call held to what it must do in all that can be seen of it: the
 //! word (answer or refusal), every byte lent to it with the guard bytes before and behind them,
 //! and every byte handed to it. Values are the original's; the views, which it has not, are read
-//! from document 01, and so are the refusals. Lent bytes hold random numbers before each call, so
+//! from document 01, and so are the refusals. A game is read move by move on the original's board,
+//! by its verdicts and its rows of five. Lent bytes hold random numbers before each call, so
 //! a byte that is written where none should be is seen.
 //!
 //! What the fast referee is asked about rows and verdicts, the second referee is asked right after
@@ -16,11 +17,12 @@
 //! - `call`: a call as data, and ours behind it. `expected`: what it must answer.
 //! - `judge`: one comparison. `tally`: their counts. `shrink`: smaller differences. `report`:
 //!   all of it in words.
-//! - `limits`, `lines`, `boards`: what is asked.
+//! - `limits`, `lines`, `boards`, `games`: what is asked.
 
 pub mod boards;
 pub mod call;
 pub mod expected;
+pub mod games;
 pub mod judge;
 pub mod limits;
 pub mod lines;
@@ -88,6 +90,7 @@ pub fn run(host: &Host, plan: &Plan, watch: impl Fn(u64, u64)) -> Tally {
 fn work(mut judge: Judge, plan: &Plan, share: u64) -> Tally {
     if share == 0 {
         limits::all(&mut judge);
+        games::limits(&mut judge);
         boards::cases(&mut judge);
     }
     lines::whole(&mut judge, plan.comparisons, share, plan.threads);
@@ -99,6 +102,7 @@ fn work(mut judge: Judge, plan: &Plan, share: u64) -> Tally {
             break;
         }
         boards::board(&mut judge, number);
+        games::some(&mut judge);
     }
     judge.tally
 }

@@ -1,4 +1,5 @@
 //! The host interface beside the original.
 
 pub mod differential;
+pub mod reading;
 pub mod timing;

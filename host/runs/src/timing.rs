@@ -1,6 +1,7 @@
 //! Times, taken side by side: the original and the host interface on the same boards in one run,
 //! the second referee beside the fast one, and pictures of both.
 
+pub mod games;
 pub mod machine;
 pub mod picture;
 pub mod race;

@@ -14,7 +14,7 @@ const SHORT: Plan = Plan {
 };
 
 /// The refusals of each function, as the host interface lists them.
-const REFUSALS: [&[usize]; 25] = [
+const REFUSALS: [&[usize]; 26] = [
     &[1, 2, 3, 4, 5, 6, 7, 13],
     &[9, 13],
     &[9, 13],
@@ -40,6 +40,7 @@ const REFUSALS: [&[usize]; 25] = [
     &[8, 9, 11],
     &[8, 9],
     &[9, 13],
+    &[8, 13, 14],
 ];
 
 fn short(host: &Host) -> Tally {
@@ -64,7 +65,7 @@ fn ours_has_no_difference_and_every_refusal_is_met() {
     assert_eq!(tally.differences(), 0);
     assert!(tally.comparisons() >= SHORT.comparisons);
     for ((name, count), refusals) in NAMES.iter().zip(&tally.counts).zip(REFUSALS) {
-        let met = (0..14).filter(|&number| count.refusals[number] > 0);
+        let met = (0..15).filter(|&number| count.refusals[number] > 0);
         assert_eq!(met.collect::<Vec<_>>(), refusals, "{name}");
         let refused: u64 = count.refusals.iter().sum();
         assert!(count.comparisons > refused, "{name} answers too");
@@ -304,4 +305,52 @@ fn the_program_says_how_it_went() {
         assert!(ended.stdout.is_empty());
         assert!(ended.stderr.starts_with(b"usage: differential "));
     }
+}
+
+/// Every kind of fault is planted, and games without one end in every way.
+#[test]
+fn games_of_every_kind_are_met() {
+    let tally = short(&ask);
+    assert!(tally.games.reasons.iter().all(|&count| count > 0));
+    assert!(tally.games.winners.iter().all(|&count| count > 0));
+    let text = report::games(&tally);
+    assert!(text.starts_with("games: "), "{text}");
+}
+
+/// The fault's stone left on the board that is handed back.
+#[test]
+fn a_stone_left_on_is_found() {
+    let wrong = |call: &Call, given: &[u8], lent: &mut Lent| {
+        let word = ask(call, given, lent);
+        if *call == Call::Game && (1..65536).contains(&word) {
+            let code = usize::from(given[word as usize - 1]);
+            lent[3 + code] = 1 + (word as u8 + 1) % 2;
+        }
+        word
+    };
+    let found = only_difference(&wrong);
+    assert_eq!(found.expected.word, found.got.word);
+    assert!(report::difference(&found).contains(" moves: ["));
+}
+
+/// A move on a stone after a five is reported as one after a five.
+#[test]
+fn reasons_in_another_order_are_found() {
+    let wrong = |call: &Call, given: &[u8], lent: &mut Lent| {
+        let word = ask(call, given, lent);
+        if *call == Call::Game && (1..65536).contains(&word) && lent[1] == 1 {
+            let before = &given[..word as usize - 1];
+            let mut report = [0; 228];
+            if renju::raw::renju_game(before, &mut report) == 0 && report[2] != 0 {
+                lent[1] = 3;
+            }
+        }
+        word
+    };
+    let found = only_difference(&wrong);
+    assert_eq!(found.expected.word, found.got.word);
+    let reasons = [&found.expected, &found.got].map(|outcome| outcome.lent[GUARD + 1]);
+    assert_eq!(reasons, [1, 3]);
+    // Five stones of one side, four of the other, and the move: nothing shorter has it.
+    assert!(found.size().0 >= 10, "{:?}", found.size());
 }

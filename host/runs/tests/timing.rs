@@ -7,6 +7,8 @@ use std::time::{Duration, Instant};
 use oracle::boards::{self, Dice};
 use oracle::{naive, original};
 use renju::Cells;
+use runs::reading::read;
+use runs::timing::games::{self, Games};
 use runs::timing::race::{self, Pace, Race, Times};
 use runs::timing::rows::{Changes, Form, Lists, Other, Texts, Verdicts};
 use runs::timing::sets::Ready;
@@ -282,6 +284,20 @@ fn every_kind_of_question_sees_a_difference() {
     }
 }
 
+/// Each is as long as it should be and has no fault, so that all of it is read.
+#[test]
+fn the_games_are_read_to_their_end() {
+    for length in games::LENGTHS {
+        let made = games::games(7, length, 2);
+        for moves in &made {
+            let reading = read(moves);
+            assert_eq!((moves.len(), reading.number), (length, 0));
+        }
+        let mut race = Games::new(made);
+        assert!(race.agrees(0) && race.agrees(1));
+    }
+}
+
 #[test]
 fn the_moves_of_a_game_make_its_boards() {
     let moves = sets::moves(3791, 60);
@@ -323,9 +339,9 @@ fn a_quick_run_agrees() {
     let mut told = 0;
     let settings = Settings::quick(3);
     let rows = suite::run(&settings, |_| told += 1).expect("the answers agree");
-    assert_eq!((rows.len(), told), (14, 14));
+    assert_eq!((rows.len(), told), (18, 18));
     let second = suite::run_second(&settings, |_| told += 1).expect("the answers agree");
-    assert_eq!((second.len(), told), (10, 24));
+    assert_eq!((second.len(), told), (10, 28));
     for row in rows.iter().chain(&second) {
         let name = format!("{} {}", row.question, row.boards);
         assert!(
@@ -335,8 +351,8 @@ fn a_quick_run_agrees() {
     }
     let lines = |text: String| text.lines().count();
     let sides = ["second", "fast"];
-    assert_eq!(lines(table::plain(&rows, sides)), 15);
-    assert_eq!(lines(table::markdown(&rows, sides)), 16);
+    assert_eq!(lines(table::plain(&rows, sides)), 19);
+    assert_eq!(lines(table::markdown(&rows, sides)), 20);
     let text = table::plain(&second, sides);
     assert!(
         text.contains("  second p50  second p99  fast p50  "),
@@ -358,7 +374,7 @@ fn the_program_prints_a_table() {
     assert!(text.contains("- Seed: 7.\n"), "{text}");
     let table: Vec<&str> = text.lines().filter(|l| l.starts_with('|')).collect();
     // Two heads, each with a rule below it: the original's rows, and the second referee's.
-    assert_eq!(table.len(), 2 + 14 + 2 + 10, "{text}");
+    assert_eq!(table.len(), 2 + 18 + 2 + 10, "{text}");
     assert!(table.iter().all(|l| l.matches('|').count() == 12), "{text}");
     assert_eq!(bench(&["soon"]).status.code(), Some(2));
 }

@@ -108,11 +108,24 @@ static void lines(void) {
     say("line_eyes", renju_line_eyes(0, 0x2f, 15, RENJU_WHITE, RENJU_FOUR), 0);
 }
 
+/* White's stone is played on; then a game of too many moves, and one with a code that is none. */
+static void games(void) {
+    static uint8_t moves[RENJU_MOVES + 1] = {112, 113, 113};
+    say("game", renju_game(moves, 3, out, RENJU_REPORT), 0);
+    printf("%u %u %u, H8 is %u, H9 is %u\n", (unsigned)out[0], (unsigned)out[1], (unsigned)out[2],
+           (unsigned)out[3 + 112], (unsigned)out[3 + 113]);
+    say("game", renju_game(moves, 3, out, RENJU_REPORT - 1), 0);
+    say("game", renju_game(moves, sizeof moves, out, RENJU_REPORT), 0);
+    moves[2] = 225;
+    say("game", renju_game(moves, 3, out, RENJU_REPORT), 0);
+}
+
 int main(void) {
     texts();
     points();
     verdicts();
     rows();
     lines();
+    games();
     return 0;
 }

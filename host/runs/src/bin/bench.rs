@@ -71,6 +71,7 @@ fn conditions(settings: &Settings) -> String {
         nested,
         by_point,
         changed,
+        played,
         pace,
         second,
         second_pace,
@@ -85,6 +86,10 @@ fn conditions(settings: &Settings) -> String {
 - Boards: {games} games of each number of stones and {nested} nested boards. Verdicts are asked at
   every empty point of the first {by_point} of each; put and remove at every empty point of the
   first {changed} games of each number of stones.
+- Whole games: {played} of each length, without a fault. Those of 20 and 60 moves are played, those
+  of 120 and 225 are full boards without a five, put stone by stone. The original is asked at each
+  move whether the point is free, for the strict verdict where Black moves, and after the stone is
+  put for a five through it.
 - Order: {rounds} rounds over all questions after {warm_up} of warm-up. Each question is asked of
   both, one after the other; which goes first changes with the round and with the question.
 - Samples: calls that take less than {sample} ns on the faster side go several to a sample, as many

@@ -107,10 +107,12 @@ pub enum Call {
     },
     /// Of the second referee.
     Second(Question),
+    /// A whole game: the bytes handed over are its moves.
+    Game,
 }
 
 /// The functions' names, by [`Call::number`].
-pub const NAMES: [&str; 25] = [
+pub const NAMES: [&str; 26] = [
     "renju_read",
     "renju_to_string",
     "renju_to_pretty_string",
@@ -136,6 +138,7 @@ pub const NAMES: [&str; 25] = [
     "renju_second_forbidden",
     "renju_second_forbidden_strict",
     "renju_second_forbidden_points",
+    "renju_game",
 ];
 
 /// What a function may write to.
@@ -167,6 +170,7 @@ impl Call {
             Call::LineStartsOn { .. } => 17,
             Call::LineEyes { .. } => 18,
             Call::Second(question) => 19 + question.number(),
+            Call::Game => 25,
         }
     }
 
@@ -182,6 +186,12 @@ impl Call {
             _ if self.line().is_some() => Lends::Nothing,
             _ => Lends::Out,
         }
+    }
+
+    /// Whether the bytes handed over are no cells: a text, or a game's moves. Each of them counts
+    /// by itself, and none has to be there.
+    pub fn takes_a_list(&self) -> bool {
+        matches!(self, Call::Read | Call::Game)
     }
 
     /// What is asked, where both referees are asked it.
@@ -222,7 +232,7 @@ impl Call {
     }
 }
 
-/// The bytes that a call is handed: a text, or cells with the original's board of them, which is
+/// The bytes that a call is handed: a text, moves, or cells with the original's board of them, which is
 /// made once for all the questions about it.
 #[derive(Clone)]
 pub struct Given {
@@ -314,6 +324,7 @@ pub fn ask(call: &Call, given: &[u8], lent: &mut Lent) -> u32 {
             raw::renju_line_eyes(line.blacks, line.whites, line.size, colour, kind)
         }
         Call::Second(question) => ask_second(question, given, lent),
+        Call::Game => raw::renju_game(given, lent),
     }
 }
 

@@ -1,6 +1,7 @@
 //! What a call must answer: refusals by section 2 of document 01, values by the original.
 
 use super::call::{Call, Given, Question};
+use super::games;
 use oracle::board::board::Board;
 use oracle::naive;
 use oracle::original::{self, Cells, KINDS, player, point, to_cells, to_line};
@@ -49,7 +50,7 @@ fn numbers(call: &Call) -> Numbers {
         Call::LineStartsOn {
             colour, kind, cell, ..
         } => (n.colour, n.kind, n.cell) = (Some(colour), Some(kind), Some(cell)),
-        Call::Read | Call::ToString | Call::ToPrettyString | Call::EmptyPoints => {}
+        Call::Read | Call::ToString | Call::ToPrettyString | Call::EmptyPoints | Call::Game => {}
     }
     n
 }
@@ -70,19 +71,22 @@ fn question_numbers(question: Question) -> Numbers {
 }
 
 /// "Order: text 1, 2, [..]; then 10 for size, 9, 8, 12, 10 for place, 11, 13." The original's own
-/// refusals, 3 to 7, come with the reading: `read` can meet none of those behind them but 13.
+/// refusals, 3 to 7, come with the reading: `read` can meet none of those behind them but 13. Of a
+/// game "14 for more than 225 moves, before 8".
 fn refusal(call: &Call, given: &Given) -> Option<u8> {
     let n = numbers(call);
     let over = |number: Option<u8>, most: u8| number.is_some_and(|number| number > most);
     let wrong_colour = n.colour.is_some_and(|colour| colour != 1 && colour != 2);
     let wrong_number = over(n.view, 7) || over(n.distance, 14) || wrong_colour || over(n.kind, 7);
-    let is_read = *call == Call::Read;
+    let (is_read, is_game) = (*call == Call::Read, *call == Call::Game);
+    let wrong_move = is_game && given.bytes.iter().any(|&code| code > 224);
     let rules = [
         (1, is_read && given.bytes.len() > 4096),
         (2, is_read && given.bytes.iter().any(|&byte| byte >= 128)),
         (10, n.size.is_some_and(|size| !(5..=15).contains(&size))),
         (9, is_unsound(call, given)),
-        (8, over(n.code, 224)),
+        (14, is_game && given.bytes.len() > 225),
+        (8, over(n.code, 224) || wrong_move),
         (12, wrong_number),
         (
             10,
@@ -97,7 +101,7 @@ fn refusal(call: &Call, given: &Given) -> Option<u8> {
 /// "unsound board, line or segment; cell bytes of other length or with a byte over 2".
 fn is_unsound(call: &Call, given: &Given) -> bool {
     match call {
-        Call::Read | Call::TurnPoint { .. } => false,
+        Call::Read | Call::Game | Call::TurnPoint { .. } => false,
         _ => match call.line() {
             Some(line) => !line.is_sound(),
             None => given.sound.is_none(),
@@ -126,6 +130,7 @@ fn value(call: &Call, given: &Given) -> Expected {
             let turned = naive::turned_point(usize::from(view), usize::from(code));
             Ok((turned as u16, Vec::new()))
         }
+        (Call::Game, _) => Ok(games::report(&given.bytes)),
         (_, Some((cells, board))) => Ok(of_board(call, cells, board)),
         (_, None) => Ok((of_line(call), Vec::new())),
     }

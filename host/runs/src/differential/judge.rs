@@ -116,6 +116,9 @@ impl<'a> Judge<'a> {
     pub fn compare(&mut self, call: Call, given: &Given, room: Room) {
         let answer = expected(&call, given);
         self.hold(call, given, room, &answer);
+        if let (Call::Game, Ok((_, report))) = (call, &answer) {
+            self.tally.games.count(report, given.bytes.len());
+        }
         if let Some(second) = call.second() {
             self.hold(second, given, room, &answer);
         }

@@ -58,6 +58,19 @@ fn refusals(count: &Count) -> String {
     parts.join(", ")
 }
 
+/// What the games came to: how many moves were read, and how often each fault and winner.
+pub fn games(tally: &Tally) -> String {
+    let games = &tally.games;
+    let [none, occupied, forbidden, after_five] = games.reasons;
+    let [nobody, black, white] = games.winners;
+    format!(
+        "games: {} moves read; {none} without a fault, {occupied} occupied, {forbidden} forbidden, \
+         {after_five} after a five; of those without {nobody} won by nobody, {black} by Black, \
+         {white} by White\n",
+        games.moves
+    )
+}
+
 pub fn total(tally: &Tally) -> String {
     format!(
         "{} comparisons, {} differences\n",
@@ -101,6 +114,7 @@ fn handed(call: &Call, given: &Given) -> String {
     let (bytes, length) = (&given.bytes, given.bytes.len());
     match (call, &given.sound) {
         (Call::Read, _) => format!("text of {length} bytes: \"{}\"\n", bytes.escape_ascii()),
+        (Call::Game, _) => format!("{length} moves: {bytes:?}\n"),
         (Call::TurnPoint { .. }, _) => String::new(),
         _ if call.line().is_some() => String::new(),
         (_, Some((cells, _))) => format!("cells:\n{}\n", write_diagram(cells)),

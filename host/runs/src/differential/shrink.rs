@@ -1,17 +1,17 @@
 //! Makes a difference smaller: stones and bytes are taken away while it stays.
 
-use super::call::{Call, Given, Host, Line};
+use super::call::{Given, Host, Line};
 use super::judge::{Case, Difference, Judge, Progress};
 
 impl Difference {
     /// What makes one difference smaller than another: fewer stones, then fewer bytes or cells.
-    /// A text is as large as it is long.
+    /// A text is as large as it is long, and so is a game.
     pub fn size(&self) -> (usize, usize) {
         let Case { call, given, .. } = &self.case;
         let length = given.bytes.len();
         match call.line() {
             Some(line) => (line.stone_count(), line.size.into()),
-            None if *call == Call::Read => (length, length),
+            None if call.takes_a_list() => (length, length),
             None => (
                 given.bytes.iter().filter(|&&cell| cell != 0).count(),
                 length,
@@ -47,8 +47,8 @@ fn places(case: &Case) -> usize {
     }
 }
 
-/// The case without one stone, or, where it is a text, without one byte; nothing where there is
-/// none at the place.
+/// The case without one stone, or, where it is a text or a game, without one byte; nothing where
+/// there is none at the place.
 fn without(case: &Case, place: usize) -> Option<Case> {
     let mut next = case.clone();
     if let Some(line) = case.call.line() {
@@ -63,7 +63,7 @@ fn without(case: &Case, place: usize) -> Option<Case> {
         return (fewer != stones).then_some(next);
     }
     let mut bytes = case.given.bytes.clone();
-    if case.call == Call::Read {
+    if case.call.takes_a_list() {
         bytes.remove(place);
         next.given = Given::text(&bytes);
         return Some(next);

@@ -9,14 +9,51 @@ pub struct Count {
     pub comparisons: u64,
     pub differences: u64,
     /// How often each refusal was to be given, by its number.
-    pub refusals: [u64; 14],
+    pub refusals: [u64; 15],
     pub smallest: Option<Difference>,
 }
 
-/// The counts of all functions, in the order of [`NAMES`].
+/// The counts of all functions, in the order of [`NAMES`], and those of the games.
 #[derive(Clone, Default)]
 pub struct Tally {
     pub counts: [Count; NAMES.len()],
+    pub games: Games,
+}
+
+/// What the games that were not refused came to, by the original.
+#[derive(Clone, Default)]
+pub struct Games {
+    /// The moves that were read: up to a game's fault, or all.
+    pub moves: u64,
+    /// By the reason's number, 0 for no fault.
+    pub reasons: [u64; 4],
+    /// Of the games without a fault, by the winner's number.
+    pub winners: [u64; 3],
+}
+
+impl Games {
+    /// Counts the report of a game of so many moves: number, reason and winner come first.
+    pub fn count(&mut self, report: &[u8], moves: usize) {
+        let (number, reason, winner) = (report[0], report[1], report[2]);
+        self.reasons[usize::from(reason)] += 1;
+        self.moves += match number {
+            0 => moves as u64,
+            fault => fault.into(),
+        };
+        if number == 0 {
+            self.winners[usize::from(winner)] += 1;
+        }
+    }
+
+    fn add(&mut self, more: &Games) {
+        self.moves += more.moves;
+        for (count, more) in self.reasons.iter_mut().zip(more.reasons) {
+            *count += more;
+        }
+        for (count, more) in self.winners.iter_mut().zip(more.winners) {
+            *count += more;
+        }
+    }
 }
 
 impl Count {
@@ -71,6 +108,7 @@ impl Tally {
 
     /// Adds what another thread has compared.
     pub fn add(&mut self, other: Tally) {
+        self.games.add(&other.games);
         for (count, more) in self.counts.iter_mut().zip(other.counts) {
             count.add(more);
         }

@@ -2,6 +2,7 @@
 
 use std::fmt;
 
+use super::games::{self, Games};
 use super::race::{self, Pace, Race};
 use super::rows::{Changes, Form, Lists, Other, Texts, Verdicts};
 use super::sets::{self, Set};
@@ -23,6 +24,8 @@ pub struct Settings {
     /// Boards of a set of games that are changed point by point: a call there is the same work on
     /// any board.
     pub changed: usize,
+    /// Whole games of each length.
+    pub played: usize,
     pub pace: Pace,
     /// Boards of each set on which the second referee is timed. It is slow, and few say how slow.
     pub second: usize,
@@ -48,6 +51,7 @@ impl Settings {
             nested: 200,
             by_point: 20,
             changed: 4,
+            played: 40,
             pace,
             second: 4,
             second_pace,
@@ -67,6 +71,7 @@ impl Settings {
             nested: 6,
             by_point: 1,
             changed: 1,
+            played: 2,
             pace,
             second: 1,
             second_pace: Pace { rounds: 1, ..pace },
@@ -164,6 +169,11 @@ pub fn run(settings: &Settings, report: impl FnMut(&Row)) -> Result<Vec<Row>, Di
             form.words(),
             &mut Texts::new(boards, form),
         )?;
+    }
+    for length in games::LENGTHS {
+        let made = games::games(settings.seed, length, settings.played);
+        let boards = format!("games, {length} moves");
+        table.add("whole game", &boards, &mut Games::new(made))?;
     }
     Ok(table.rows)
 }
