@@ -48,6 +48,7 @@ extern "C" {
 #define RENJU_ROWS_ON 20  /* .. and so many go through one point */
 #define RENJU_MOVES 225   /* a game has at most so many moves */
 #define RENJU_REPORT 228  /* the report of a game: number, reason, winner, cells */
+#define RENJU_RECORD 232  /* a stored game in tagged form has at most so many bytes */
 
 /* Why a question was refused. */
 enum renju_refusals {
@@ -64,7 +65,9 @@ enum renju_refusals {
     RENJU_OCCUPIED = 11,   /* the plain verdict at an occupied point */
     RENJU_NUMBER = 12,     /* no such view, distance, colour or row kind */
     RENJU_OUTPUT = 13,     /* a lent output shorter than the whole answer */
-    RENJU_MANY_MOVES = 14  /* more than 225 moves */
+    RENJU_MANY_MOVES = 14, /* a game of more than 225 moves */
+    RENJU_MALFORMED = 15,  /* a malformed record */
+    RENJU_TURNED_VIEW = 16 /* a record in another view than 0, taken back */
 };
 
 /* What is on a cell; the last two are the colours. */
@@ -222,6 +225,22 @@ uint32_t renju_second_forbidden_strict(const uint8_t *cells, size_t cells_len, u
 /* As renju_forbidden_points. Refusals 9, 13. */
 uint32_t renju_second_forbidden_points(const uint8_t *cells, size_t cells_len, uint8_t *out,
                                        size_t out_len);
+
+/* Stored games. The old form is a point's code for each move. The new one, a record, is two fields
+ * of a tag, a length in two bytes, high byte first, and a value: tag 1 the view, one byte, 0 to 7;
+ * then tag 2 the moves, at most 225; nothing after. */
+
+/* The record of moves in a view: how many bytes, 7 more than there are moves. Refusals 14, 8, 12,
+ * 13. */
+uint32_t renju_to_tagged(const uint8_t *moves, size_t moves_len, uint8_t view, uint8_t *out,
+                         size_t out_len);
+
+/* The moves of a record in view 0: how many; a code each. Refusals 15, 14, 8, 16, 13. */
+uint32_t renju_from_tagged(const uint8_t *record, size_t record_len, uint8_t *out,
+                           size_t out_len);
+
+/* The view of a record. Refusals 15, 14, 8. */
+uint32_t renju_tagged_view(const uint8_t *record, size_t record_len);
 
 #ifdef __cplusplus
 }

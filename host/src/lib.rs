@@ -54,12 +54,17 @@
 //! [`second`] asks a second referee the same about rows and verdicts: a slow one, which walks the
 //! cells by their coordinates, for checks beside the first.
 //!
+//! # Stored games
+//!
+//! A [`Record`] is a game's moves with the view that it is shown in, in the tagged form; games of
+//! the old form, a point's code for each move, become records and come back.
+//!
 //! # Refusals
 //!
 //! What can be refused is a `Result` with a [`Refusal`], which has the number that the Rattle and
 //! the C functions give too. Numbers and bytes from outside are tested where they become a
-//! [`Point`], a [`Colour`], a [`Kind`], a [`View`], a [`Line`] or [`Cells`]; after that there is
-//! little left to refuse.
+//! [`Point`], a [`Colour`], a [`Kind`], a [`View`], a [`Line`], a [`Record`] or [`Cells`]; after
+//! that there is little left to refuse.
 //!
 //! "Document 01" in this crate is the project's paper on the rules and the refusals; its sentences
 //! stand beside the definitions in `crates/rules/specs`.
@@ -78,6 +83,7 @@ mod point;
 mod questions;
 #[allow(unsafe_code)] // The calls into the archive.
 pub mod raw;
+mod record;
 mod referee;
 mod refusal;
 mod row;
@@ -92,6 +98,7 @@ pub use kind::Kind;
 pub use line::Line;
 pub use list::{Crosses, List, Points, Rows, RowsOn};
 pub use point::Point;
+pub use record::{Record, RecordBytes};
 pub use refusal::Refusal;
 pub use row::Row;
 pub use verdict::{Cross, Verdict};
@@ -170,6 +177,18 @@ pub const MOVES: usize = 225;
 /// assert_eq!(out[..3], [3, 1, 0]);
 /// ```
 pub const REPORT: usize = 228;
+
+/// How many bytes a stored game in tagged form can have: 7, and 225 moves.
+///
+/// ```
+/// use renju::{Point, Record, View};
+///
+/// let moves: Vec<Point> = Point::all().collect();
+/// let record = Record::new(View::Same, &moves)?;
+/// assert_eq!(record.to_bytes().len(), renju::RECORD);
+/// # Ok::<(), renju::Refusal>(())
+/// ```
+pub const RECORD: usize = 232;
 
 /// How many bytes a text may have.
 ///

@@ -199,6 +199,20 @@ mod ffi {
             out: *mut u8,
             out_len: usize,
         ) -> u32;
+        pub fn renju_to_tagged(
+            moves: *const u8,
+            moves_len: usize,
+            view: u8,
+            out: *mut u8,
+            out_len: usize,
+        ) -> u32;
+        pub fn renju_from_tagged(
+            record: *const u8,
+            record_len: usize,
+            out: *mut u8,
+            out_len: usize,
+        ) -> u32;
+        pub fn renju_tagged_view(record: *const u8, record_len: usize) -> u32;
     }
 }
 
@@ -620,4 +634,52 @@ pub fn renju_second_forbidden_points(cells: &[u8], out: &mut [u8]) -> u32 {
     unsafe {
         ffi::renju_second_forbidden_points(cells.as_ptr(), cells.len(), out.as_mut_ptr(), out.len())
     }
+}
+
+/// The record of a game's moves, a code each, in a view: 7 and as many bytes as
+/// there are moves, written. Refusals 14, 8, 12, 13.
+///
+/// ```
+/// # use renju::raw::*;
+/// let mut out = [0; 232];
+/// assert_eq!(renju_to_tagged(&[112, 113], 0, &mut out), 9);
+/// assert_eq!(out[..9], [1, 0, 1, 0, 2, 0, 2, 112, 113]);
+/// assert_eq!(renju_to_tagged(&[112, 225], 8, &mut out), 8 << 16);
+/// ```
+pub fn renju_to_tagged(moves: &[u8], view: u8, out: &mut [u8]) -> u32 {
+    unsafe {
+        ffi::renju_to_tagged(
+            moves.as_ptr(),
+            moves.len(),
+            view,
+            out.as_mut_ptr(),
+            out.len(),
+        )
+    }
+}
+
+/// The moves of a record in view 0: how many, their codes written. Refusals 15,
+/// 14, 8, 16, 13.
+///
+/// ```
+/// # use renju::raw::*;
+/// let mut out = [0; 225];
+/// assert_eq!(renju_from_tagged(&[1, 0, 1, 0, 2, 0, 2, 112, 113], &mut out), 2);
+/// assert_eq!(out[..2], [112, 113]);
+/// assert_eq!(renju_from_tagged(&[1, 0, 1, 4, 2, 0, 1, 112], &mut out), 16 << 16);
+/// assert_eq!(renju_from_tagged(&[112, 113], &mut out), 15 << 16);
+/// ```
+pub fn renju_from_tagged(record: &[u8], out: &mut [u8]) -> u32 {
+    unsafe { ffi::renju_from_tagged(record.as_ptr(), record.len(), out.as_mut_ptr(), out.len()) }
+}
+
+/// The view of a record, 0 to 7. Refusals 15, 14, 8.
+///
+/// ```
+/// # use renju::raw::*;
+/// assert_eq!(renju_tagged_view(&[1, 0, 1, 4, 2, 0, 1, 112]), 4);
+/// assert_eq!(renju_tagged_view(&[1, 0, 1, 8, 2, 0, 1, 112]), 15 << 16);
+/// ```
+pub fn renju_tagged_view(record: &[u8]) -> u32 {
+    unsafe { ffi::renju_tagged_view(record.as_ptr(), record.len()) }
 }

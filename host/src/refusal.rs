@@ -1,4 +1,4 @@
-//! The fourteen refusals, and the word that carries one or an answer.
+//! The refusals, and the word that carries one or an answer.
 
 use std::error::Error;
 use std::fmt;
@@ -48,20 +48,25 @@ pub enum Refusal {
     Number = 12,
     /// 13: a lent output that is shorter than the whole answer.
     Output = 13,
-    /// 14: more than 225 moves.
+    /// 14: a game of more than 225 moves.
     ManyMoves = 14,
+    /// 15: a malformed record; a view over 7 in it, or a length that disagrees
+    /// with the bytes.
+    Malformed = 15,
+    /// 16: a record in another view than 0, taken back to the old form.
+    TurnedView = 16,
 }
 
 impl Refusal {
-    /// All fourteen, by number.
+    /// All of them, by number.
     ///
     /// ```
     /// use renju::Refusal;
     ///
-    /// assert_eq!(Refusal::ALL.len(), 14);
+    /// assert_eq!(Refusal::ALL.len(), 16);
     /// assert_eq!(Refusal::ALL[0].number(), 1);
     /// ```
-    pub const ALL: [Self; 14] = [
+    pub const ALL: [Self; 16] = [
         Self::TextLength,
         Self::TextByte,
         Self::XPart,
@@ -76,9 +81,11 @@ impl Refusal {
         Self::Number,
         Self::Output,
         Self::ManyMoves,
+        Self::Malformed,
+        Self::TurnedView,
     ];
 
-    /// Its number, 1 to 14.
+    /// The documents' number, 1 to 16.
     ///
     /// ```
     /// assert_eq!(renju::Refusal::Occupied.number(), 11);
@@ -87,7 +94,7 @@ impl Refusal {
         self as u8
     }
 
-    /// The refusal of a number; none for 0 and for a number over 14.
+    /// The refusal of a number; none for 0 and for a number over 16.
     ///
     /// ```
     /// use renju::Refusal;
@@ -111,6 +118,8 @@ impl Refusal {
             12 => Self::Number,
             13 => Self::Output,
             14 => Self::ManyMoves,
+            15 => Self::Malformed,
+            16 => Self::TurnedView,
             _ => return None,
         })
     }
@@ -138,6 +147,8 @@ impl Refusal {
             Self::Number => "no such view, distance, colour or row kind",
             Self::Output => "the lent output is too short",
             Self::ManyMoves => "the game has more than 225 moves",
+            Self::Malformed => "the record is malformed",
+            Self::TurnedView => "the record is in another view than 0",
         }
     }
 }
@@ -171,7 +182,7 @@ pub const fn answer(word: u32) -> Result<u16, Refusal> {
     if refused == 0 {
         return Ok(answer);
     }
-    // No function gives a number over 14, so each has its own refusal here.
+    // No function gives a number over 16, so each has its own refusal here.
     match Refusal::from_number(refused as u8) {
         Some(refusal) => Err(refusal),
         None => Err(Refusal::Output),

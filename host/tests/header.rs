@@ -1,7 +1,7 @@
 //! The same functions in the C header, raw.rs and the archive's source; the same numbers in C and
 //! Rust.
 
-use renju::{CELLS, Colour, DIAGRAM, Kind, MOVES, PRETTY, REPORT, ROWS, ROWS_ON};
+use renju::{CELLS, Colour, DIAGRAM, Kind, MOVES, PRETTY, RECORD, REPORT, ROWS, ROWS_ON};
 use renju::{Reason, Refusal, TEXT, Verdict, View};
 use std::collections::BTreeMap;
 use std::fs;
@@ -122,7 +122,7 @@ fn parameter_in_c(parameter: &str) -> String {
 #[test]
 fn same_functions() {
     let header = header_prototypes();
-    assert_eq!(header.len(), 26);
+    assert_eq!(header.len(), 29);
     assert_eq!(header, raw_prototypes());
     assert_eq!(header, source_prototypes());
 }
@@ -185,6 +185,7 @@ fn same_numbers() {
             ("RENJU_MOVES", MOVES),
             ("RENJU_REPORT", REPORT),
             ("RENJU_REASON_NONE", 0),
+            ("RENJU_RECORD", RECORD),
         ]
         .map(|(name, number)| (name.to_owned(), number)),
     );

@@ -1,6 +1,6 @@
 //! No question about a board touches the heap.
 
-use renju::{Cells, Colour, Game, Kind, Point, View, second};
+use renju::{Cells, Colour, Game, Kind, Point, Record, View, second};
 use std::alloc::{GlobalAlloc, Layout, System};
 use std::cell::Cell;
 use std::fmt::{self, Write};
@@ -51,6 +51,12 @@ fn ask_the_second(cells: &Cells, point: Point) {
     black_box(second::forbidden_points(cells));
 }
 
+fn store(moves: &[Point]) {
+    let bytes = Record::new(View::HalfTurn, moves).unwrap().to_bytes();
+    let record = Record::try_from(bytes.as_slice()).unwrap();
+    black_box(record.to_codes()).unwrap_err();
+}
+
 fn ask_everything(bytes: &[u8], text: &[u8], point: Point) {
     let mut cells = Cells::read(text).unwrap();
     cells.put(point, Colour::Black);
@@ -74,6 +80,7 @@ fn ask_everything(bytes: &[u8], text: &[u8], point: Point) {
     let game = Game::new(&[point, point]).unwrap();
     write!(Nowhere, "{}", game.report()).unwrap();
     ask_the_second(&cells, point);
+    store(&cells.empty_points());
     write!(Nowhere, "{cells}").unwrap();
 }
 

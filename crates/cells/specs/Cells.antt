@@ -28,7 +28,7 @@ cellsRefusal cells = unless (eqb (length cells) 225 && allBelow 225 (λ p. leb (
 unfoldable pub codesRefusal : List ℕ → ℕ
 codesRefusal codes = unless (allBelow (length codes) (λ i. ltb (getD codes i 0) 225)) noPoint
 
--- document 02's "14 for more than 225 moves, before 8"
+-- of the moves of a game, document 02: "14 for more than 225 moves, before 8"
 unfoldable pub movesRefusal : List ℕ → ℕ
 movesRefusal moves = first (unless (leb (length moves) 225) manyMoves) (codesRefusal moves)
 

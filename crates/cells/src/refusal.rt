@@ -48,7 +48,7 @@ pub fn codes_refusal(codes: &[u8]) -> u8
     0
 }
 
-// 14 for more moves than there are points, then 8 for a code over 224 anywhere among them.
+// What is refused of the moves of a game: 14 for more than 225 of them, then 8.
 pub fn moves_refusal(moves: &[u8]) -> u8
     ensures { λ r. ⌜ r ≡ movesRefusal (now (moves .entry)) ⌝ }
 {

@@ -6,6 +6,7 @@ mod games;
 mod listed;
 mod masked;
 mod second_referee;
+mod tagged;
 mod texts;
 mod verdicts;
 
@@ -30,6 +31,9 @@ pub use second_referee::renju_second_forbidden_strict;
 pub use second_referee::renju_second_four_eyes_on;
 pub use second_referee::renju_second_rows;
 pub use second_referee::renju_second_rows_on;
+pub use tagged::renju_from_tagged;
+pub use tagged::renju_tagged_view;
+pub use tagged::renju_to_tagged;
 pub use texts::renju_read;
 pub use texts::renju_to_pretty_string;
 pub use texts::renju_to_string;

@@ -1,5 +1,5 @@
 -- Section 2: the numbers given back, 0 for none, what each means, and their order. Every crate's refusals cite them from here. The quoted
--- sentences are document 01's; from 14 on they are those of document 02.
+-- sentences are document 01's, and from 14 on document 02's.
 use mathlib.Core.Bool.{Bool, cond}
 use Prim.Native.Nat.{ℕ}
 use lib.Dec.{eqb, ltb, leb}
@@ -62,9 +62,17 @@ noNumber = 12
 abbrev pub noRoom : ℕ
 noRoom = 13
 
--- "14 for more than 225 moves, before 8"
+-- "14 for more than 225 moves"
 abbrev pub manyMoves : ℕ
 manyMoves = 14
+
+-- "15 for a malformed record, a view over 7 or a length that disagrees with the bytes included"
+abbrev pub malformed : ℕ
+malformed = 15
+
+-- "16 for a view other than 0 on the way back"
+abbrev pub turnedView : ℕ
+turnedView = 16
 
 -- ---- the order
 
@@ -73,7 +81,8 @@ unfoldable pub unless : Bool → ℕ → ℕ
 unless b n = cond b 0 n
 
 -- Of two refusals the first that is given. "Order: text 1, 2, then the first of 3 to 7 that the reading meets; then 10 for size, 9, 8, 12,
--- 10 for place, 11, 13." A statement joins the refusals that a function gives by `first`, in this order.
+-- 10 for place, 11, 13." Where 14 and the numbers after it come, document 02 says with each request. A statement joins the refusals that a
+-- function gives by `first`, in this order.
 unfoldable pub first : ℕ → ℕ → ℕ
 first a b = cond (eqb a 0) b a
 

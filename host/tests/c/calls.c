@@ -120,6 +120,20 @@ static void games(void) {
     say("game", renju_game(moves, 3, out, RENJU_REPORT), 0);
 }
 
+/* Two moves in view 4, which are not taken back, and in view 0. */
+static void records(void) {
+    uint8_t moves[] = {112, 128, 225}, record[RENJU_RECORD];
+    size_t size = 9;
+    say("to_tagged", renju_to_tagged(moves, 2, RENJU_LEFT_RIGHT, record, sizeof record), 0);
+    say("tagged_view", renju_tagged_view(record, size), 0);
+    say("tagged_view", renju_tagged_view(record, size - 1), 0);
+    say("from_tagged", renju_from_tagged(record, size, out, sizeof out), 1);
+    say("to_tagged", renju_to_tagged(moves, 2, RENJU_SAME, out, sizeof out), 1);
+    memcpy(record, out, size);
+    say("from_tagged", renju_from_tagged(record, size, out, sizeof out), 1);
+    say("to_tagged", renju_to_tagged(moves, 3, RENJU_SAME, out, sizeof out), 1);
+}
+
 int main(void) {
     texts();
     points();
@@ -127,5 +141,6 @@ int main(void) {
     rows();
     lines();
     games();
+    records();
     return 0;
 }

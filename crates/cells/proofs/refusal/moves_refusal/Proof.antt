@@ -1,5 +1,4 @@
--- `cells::refusal::moves_refusal` meets its contract. Assumes nothing.
-use mathlib.Core.Path.{_∙_}
+-- `cells::refusal::moves_refusal` meets its contract: how many there are, then the codes. Assumes nothing.
 use lib.ListN.{length}
 use borrow.Author.Needs.{needs}
 use borrow.Author.Tests.{le-leb, lt-leb}
@@ -17,7 +16,9 @@ codes-refusal-requires c κs = search needs
 
 returns-2 : tie.Need-returns-2
 unfolding movesRefusal first unless
-returns-2 c = rw (le-leb (length (c .before .before .before .args .moves .now)) 225 (c .before .if1 .left)) (c .codes-refusal .ensures)
+returns-2 c =
+    let s = c .before in
+    rw (le-leb (length (s .before .before .args .moves .now)) 225 (s .if1 .left)) (c .codes-refusal .ensures)
 
 pub moves-refusal-spec : {M : Type 1} → statement M
 moves-refusal-spec = tie.close (tie.spec returns codes-refusal-requires returns-2)

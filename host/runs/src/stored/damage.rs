@@ -1,0 +1,76 @@
+//! Games to be stored, and records with something wrong.
+
+use super::plain::bytes_of;
+use oracle::boards::Dice;
+
+/// A game: mostly a good one.
+pub struct Stored {
+    pub view: u8,
+    pub moves: Vec<u8>,
+}
+
+/// Of up to 225 moves, now and then of a few more or many more, with a wrong code or view.
+pub fn game(dice: &mut Dice) -> Stored {
+    let length = match dice.below(20) {
+        0 => 226 + dice.below(40),
+        1 => 225,
+        2 => 2000 + dice.below(63_000),
+        3..8 => dice.below(8),
+        _ => dice.below(226),
+    };
+    let mut moves: Vec<u8> = (0..length).map(|_| dice.below(225) as u8).collect();
+    if !moves.is_empty() && dice.chance(10) {
+        let place = dice.below(length);
+        moves[place] = 225 + dice.below(31) as u8;
+    }
+    let view = match dice.below(10) {
+        0 => dice.below(256) as u8,
+        1..6 => 0,
+        _ => dice.below(8) as u8,
+    };
+    Stored { view, moves }
+}
+
+/// Mostly as much as is needed or more, now and then less.
+pub fn room(dice: &mut Dice, needed: usize) -> usize {
+    match dice.below(8) {
+        0 => needed.saturating_sub(1),
+        1 => dice.below(needed + 1),
+        2..5 => needed,
+        _ => needed + dice.below(8),
+    }
+}
+
+/// The game's record; two times in three with up to three things done to it.
+pub fn damaged(dice: &mut Dice, game: &Stored) -> Vec<u8> {
+    let mut record = bytes_of(game.view, &game.moves);
+    if dice.below(3) > 0 {
+        for _ in 0..1 + dice.below(3) {
+            damage(dice, &mut record);
+        }
+    }
+    record
+}
+
+/// One thing done: mostly in the first nine bytes, where tags, lengths and the view stand.
+fn damage(dice: &mut Dice, record: &mut Vec<u8>) {
+    let reach = if dice.chance(70) { 9 } else { record.len() };
+    let place = dice.below(reach.min(record.len()).max(1));
+    let byte = match dice.below(3) {
+        0 => dice.below(256) as u8,
+        1 => dice.below(4) as u8,
+        _ => dice.pick(&[0, 1, 2, 7, 8, 224, 225, 255]),
+    };
+    match dice.below(6) {
+        0 => record.insert(place.min(record.len()), byte),
+        1 => record.push(byte),
+        2 => record.truncate(place),
+        3 if place < record.len() => drop(record.remove(place)),
+        4 if record.len() > 4 => record.rotate_left(4),
+        _ => {
+            if let Some(old) = record.get_mut(place) {
+                *old = byte;
+            }
+        }
+    }
+}
