@@ -54,8 +54,8 @@ extern "C" {
 enum renju_refusals {
     RENJU_TEXT_LENGTH = 1, /* a text of over 4,096 bytes */
     RENJU_TEXT_BYTE = 2,   /* a text byte of 128 or more */
-    RENJU_X_PART = 3,      /* a point of a text: its letter */
-    RENJU_Y_PART = 4,      /* a point of a text: its number */
+    RENJU_X_PART = 3,      /* a point of a text: its letter; a second slash */
+    RENJU_Y_PART = 4,      /* a point of a text: its one or two digits, 1 to 15 */
     RENJU_LINE_LENGTH = 5, /* a diagram line of over 15 cells */
     RENJU_LINE_COUNT = 6,  /* a diagram of other than 15 lines */
     RENJU_LINE_SIZE = 7,   /* a diagram line of under 15 cells */

@@ -85,13 +85,14 @@ impl Cells {
     /// White's), moves in turn (`H8,I9`), or a diagram of 15 lines.
     ///
     /// Refusals 1 and 2 are for bytes that can be no text, 3 and 4 for
-    /// points, 5 to 7 for diagrams.
+    /// points, 3 also for a second slash, 5 to 7 for diagrams.
     ///
     /// ```
     /// use renju::{Cells, Refusal};
     ///
     /// assert_eq!(Cells::read(b"H8,I9")?, Cells::read(b"H8/I9")?);
     /// assert_eq!(Cells::read(b"H8,P1"), Err(Refusal::XPart));
+    /// assert_eq!(Cells::read(b"H8/I9/J10"), Err(Refusal::XPart));
     /// // With no comma and no slash it is a diagram, and has too few lines.
     /// assert_eq!(Cells::read(b"H8"), Err(Refusal::LineCount));
     /// # Ok::<(), renju::Refusal>(())

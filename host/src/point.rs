@@ -121,17 +121,18 @@ impl Point {
     }
 }
 
-/// A point is read as the texts of boards have it: a letter A to O or a to o,
-/// then at most two bytes that are a number 1 to 15, with space around it. As
-/// in the original, what follows is not looked at: `H123` is H12. A text of
-/// over 2,047 bytes is refused 1.
+/// A point is read as the texts of boards have it: one letter A to O or a to o
+/// and one or two digits that are a number 1 to 15, with space around them; no
+/// sign, and nothing behind. A text of over 2,047 bytes is refused 1.
 ///
 /// ```
 /// use renju::{Point, Refusal};
 ///
 /// assert_eq!(" h8 ".parse::<Point>(), Point::new(7, 7));
+/// assert_eq!("H08".parse::<Point>(), Point::new(7, 7));
 /// assert_eq!("P8".parse::<Point>(), Err(Refusal::XPart));
 /// assert_eq!("H16".parse::<Point>(), Err(Refusal::YPart));
+/// assert_eq!("H123".parse::<Point>(), Err(Refusal::YPart));
 /// ```
 impl FromStr for Point {
     type Err = Refusal;
@@ -139,7 +140,7 @@ impl FromStr for Point {
     // There is no second reader of points here: the proved one is handed the
     // point as two moves, Black's and White's, and White's stone then shows
     // where it is. A comma or a slash would part the text, so each is handed
-    // over as a dot, which like them is no space, letter, sign or digit.
+    // over as a dot, which like them is no space, letter or digit.
     fn from_str(text: &str) -> Result<Self, Refusal> {
         let point = text.replace([',', '/'], ".");
         let cells = Cells::read(format!("{point},{point}").as_bytes())?;

@@ -24,7 +24,7 @@ pub enum Refusal {
     TextLength = 1,
     /// 2: a text byte of 128 or more.
     TextByte = 2,
-    /// 3: "Failed to parse x part."
+    /// 3: "Failed to parse x part."; a second slash in a text of stones.
     XPart = 3,
     /// 4: "Failed to parse y part."
     YPart = 4,
@@ -135,7 +135,7 @@ impl Refusal {
                 "the text is too long: a board's may have 4,096 bytes, a point's 2,047"
             }
             Self::TextByte => "the text has a byte of 128 or more",
-            Self::XPart => "failed to parse the x part of a point",
+            Self::XPart => "failed to parse the x part of a point, or a second slash",
             Self::YPart => "failed to parse the y part of a point",
             Self::LineLength => "wrong length: a diagram line has over 15 cells",
             Self::LineCount => "wrong number of lines",

@@ -46,25 +46,19 @@ fn points_written_and_read() {
     assert_eq!(format!("{:?}", point("H8")), "Point(H8)");
 }
 
-/// Section 7's odd points, and texts that are more than one point.
+/// The odd points of section 7 and of request 5, and texts that are more than one point.
 #[test]
 fn odd_points() {
-    for (text, same) in [
-        ("H123", "H12"),
-        ("H+12", "H1"),
-        ("H08", "H8"),
-        ("H12,A1", "H12"),
-        ("H12/A1", "H12"),
-        ("H12\nA1", "H12"),
-    ] {
+    for (text, same) in [("H08", "H8"), ("\n h15\t", "H15"), ("o01", "O1")] {
         assert_eq!(text.parse(), Ok(point(same)), "{text:?}");
     }
     for text in [
-        "H8x", "H 8", "H0", "H16", "H", "H8,", "H8,A1", "H8/A1", "H,8",
+        "H8x", "H 8", "H0", "H00", "H16", "H", "H8,", "H8,A1", "H8/A1", "H,8", "H123", "H012",
+        "H12x", "H12,A1", "H12/A1", "H12\nA1", "H+1", "H+12", "H+", "H-1",
     ] {
         assert_eq!(text.parse::<Point>(), Err(Refusal::YPart), "{text:?}");
     }
-    for text in ["", " ", "P8", "8", ",", "/", ",H8", "/H8", "-"] {
+    for text in ["", " ", "P8", "8", "+8", ",", "/", ",H8", "/H8", "-"] {
         assert_eq!(text.parse::<Point>(), Err(Refusal::XPart), "{text:?}");
     }
     assert_eq!("é8".parse::<Point>(), Err(Refusal::TextByte));
@@ -93,6 +87,11 @@ fn three_forms_of_text() {
     assert_eq!(stones, cells("H8,I9,J10"));
     assert_eq!(stones, cells(&stones.to_string()));
     assert_eq!(Cells::read(b"H8,J10/I9"), Ok(stones));
+    // A second slash is refused, whatever stands behind it.
+    for text in ["H8/I9/", "H8/I9/J10", "H8//"] {
+        assert_eq!(text.parse::<Cells>(), Err(Refusal::XPart), "{text}");
+    }
+    assert_eq!("H8/I99/".parse::<Cells>(), Err(Refusal::YPart));
     // A point met again is overwritten.
     assert_eq!(cells("H8,H8").stones(Colour::White)[..], [point("H8")]);
 }

@@ -1,6 +1,6 @@
 //! The oracle: the original referee compiled from its own folder, a naive
-//! reading of document 01 beside it, boards to compare the two on, and the
-//! recorded answers of the original.
+//! reading of documents 01 and 02 beside it, boards to compare the two on,
+//! what is left out of that, and the recorded answers of the original.
 
 /// The original, unchanged, from the folder that `build.rs` found. Some of its
 /// comments link to names that its own parent module gives.
@@ -12,6 +12,7 @@ pub mod board {
 pub mod agree;
 pub mod boards;
 pub mod cases;
+pub mod left_out;
 pub mod listing;
 pub mod naive;
 pub mod naive_text;

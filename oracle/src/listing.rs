@@ -2,6 +2,7 @@
 //! list.
 
 use crate::boards::{self, Dice};
+use crate::left_out;
 use crate::naive_text::write_diagram;
 use crate::original;
 use crate::texts;
@@ -10,7 +11,7 @@ use std::fmt::Write;
 const KINDS: [&str; 4] = ["", "DoubleThree", "DoubleFour", "Overline"];
 
 /// The listing of a text. Refusals 1 and 2 are the port's own: the original
-/// reads such texts.
+/// reads such texts. A text that is left out is read by the naive reading.
 pub fn listing(text: &[u8]) -> String {
     if text.len() > 4096 {
         return refused(1);
@@ -18,8 +19,7 @@ pub fn listing(text: &[u8]) -> String {
     if !text.is_ascii() {
         return refused(2);
     }
-    let text = std::str::from_utf8(text).expect("bytes below 128 are text");
-    match original::read(text) {
+    match left_out::read(text) {
         Ok(cells) => listed(&original::forbidden_list(&original::to_board(&cells))),
         Err(number) => refused(number),
     }

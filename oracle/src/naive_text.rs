@@ -1,6 +1,8 @@
-//! A naive reading of section 7 of document 01: the three text forms.
+//! A naive reading of section 7 of document 01, with request 5 of document
+//! 02: the three text forms.
 //!
-//! Bytes in, cell bytes or a refusal number out; written from the document.
+//! Bytes in, cell bytes or a refusal number out; written from the documents.
+//! Where request 5 answers otherwise than the original: `left_out`.
 
 use crate::naive::{BLACK, Cells, EMPTY, POINTS, SIDE, WHITE, code};
 
@@ -10,7 +12,7 @@ fn is_space(byte: u8) -> bool {
 }
 
 /// "All are trimmed."
-fn trimmed(text: &[u8]) -> &[u8] {
+pub(crate) fn trimmed(text: &[u8]) -> &[u8] {
     let Some(first) = text.iter().position(|&b| !is_space(b)) else {
         return &[];
     };
@@ -36,9 +38,8 @@ pub fn read(text: &[u8]) -> Result<Cells, u8> {
     }
 }
 
-/// "A point: trimmed, a letter A to O or a to o, then at most two bytes read
-/// as a number 1 to 15, a leading "+" allowed. Bytes after those are
-/// ignored".
+/// "A point: trimmed, a letter A to O or a to o", then "one or two digits
+/// [..]: no plus sign and nothing behind. H08 stays good."
 pub fn point(text: &[u8]) -> Result<usize, u8> {
     let text = trimmed(text);
     let x = match text.first() {
@@ -46,15 +47,13 @@ pub fn point(text: &[u8]) -> Result<usize, u8> {
         Some(&letter @ b'a'..=b'o') => letter - b'a',
         _ => return Err(3),
     };
-    let behind = &text[1..];
-    let y = number(&behind[..behind.len().min(2)]).ok_or(4)?;
+    let y = number(&text[1..]).ok_or(4)?;
     Ok(code(x as usize, y - 1))
 }
 
-/// "at most two bytes read as a number 1 to 15, a leading "+" allowed".
-fn number(text: &[u8]) -> Option<usize> {
-    let digits = text.strip_prefix(b"+").unwrap_or(text);
-    if digits.is_empty() || !digits.iter().all(u8::is_ascii_digit) {
+/// "one or two digits", "a number 1 to 15".
+fn number(digits: &[u8]) -> Option<usize> {
+    if !(1..=2).contains(&digits.len()) || !digits.iter().all(u8::is_ascii_digit) {
         return None;
     }
     let value = digits
@@ -64,7 +63,7 @@ fn number(text: &[u8]) -> Option<usize> {
 }
 
 /// The points between the commas; the first that does not read decides.
-fn points(text: &[u8]) -> Result<Vec<usize>, u8> {
+pub fn points(text: &[u8]) -> Result<Vec<usize>, u8> {
     text.split(|&b| b == b',').map(point).collect()
 }
 
@@ -77,8 +76,9 @@ fn moves(text: &[u8]) -> Result<Cells, u8> {
     Ok(cells)
 }
 
-/// "Stones: two comma lists, black then white; anything after a second "/"
-/// is ignored; an empty list is refused 3."
+/// "Stones: two comma lists, black then white; [..] an empty list is refused
+/// 3." "3 for a second "/", even with nothing behind it (after the two lists
+/// are read)."
 fn stones(text: &[u8]) -> Result<Cells, u8> {
     let mut lists = text.split(|&b| b == b'/');
     let mut cells = [EMPTY; POINTS];
@@ -87,7 +87,7 @@ fn stones(text: &[u8]) -> Result<Cells, u8> {
             cells[p] = colour;
         }
     }
-    Ok(cells)
+    lists.next().map_or(Ok(cells), |_| Err(3))
 }
 
 /// "Diagram: 15 lines parted by byte 10, from row 15 down, spaces dropped,

@@ -22,7 +22,7 @@ const SPACES: [char; 6] = ['\t', '\n', '\u{b}', '\u{c}', '\r', ' '];
 
 /// Lists as they may be typed: commas, slashes, doubled points, refusals in
 /// both orders.
-const LISTS: [&str; 44] = [
+const LISTS: [&str; 49] = [
     "G8,I8,H7,H9/A1",
     "H8",
     "h8,I9,i9,A1,o15,O15",
@@ -57,6 +57,11 @@ const LISTS: [&str; 44] = [
     "H8/I9/J10",
     "H8/I9/not a point",
     "H8/I9/,,,",
+    "H8/I99/",
+    "X1/I9/",
+    "H8//",
+    "H8/ /",
+    "H8/I123/J10",
     "H8//I9",
     "H8,/I9",
     "H8/,I9",

@@ -7,7 +7,7 @@ use oracle::board::line::Line;
 use oracle::board::point::{Direction, Index};
 use oracle::boards::{self, Dice};
 use oracle::naive::{self, BLACK, EMPTY, KINDS, POINTS, WHITE};
-use oracle::{naive_text, original, texts};
+use oracle::{left_out, naive_text, original, texts};
 
 #[test]
 fn boards_agree() {
@@ -191,6 +191,7 @@ fn puts_and_removes_are_a_map() {
     }
 }
 
+/// All texts but those that request 5 speaks of.
 #[test]
 fn texts_agree() {
     let mut dice = Dice::new(14);
@@ -201,12 +202,19 @@ fn texts_agree() {
         let good = texts::good(&mut dice);
         all.push(texts::mutated(&mut dice, &good));
     }
-    let mut refused = [0; 8];
+    let (mut refused, mut left_out, mut otherwise) = ([0; 8], 0, 0);
     for text in &all {
-        let naive = naive_text::read(text.as_bytes());
-        assert_eq!(naive, original::read(text), "{text:?}");
+        let (naive, original) = (naive_text::read(text.as_bytes()), original::read(text));
+        if left_out::text(text.as_bytes()) {
+            left_out += 1;
+            otherwise += usize::from(naive != original);
+            continue;
+        }
+        assert_eq!(naive, original, "{text:?}");
         refused[naive.err().unwrap_or(0) as usize] += 1;
     }
-    println!("texts {}, by refusal {refused:?}", all.len());
+    println!("texts {}, by refusal {refused:?}", all.len() - left_out);
+    println!("left out {left_out}, of these {otherwise} answered otherwise");
     assert!(refused[0] > 1_000 && refused[3..].iter().all(|&n| n > 10));
+    assert!(left_out < all.len() / 4 && otherwise > left_out / 4);
 }

@@ -1,5 +1,7 @@
-//! The expected listings of the program's cases are the original's.
+//! The expected listings of the program's cases are the original's; those of
+//! request 5, which are counted, are by the naive reading.
 
+use oracle::left_out;
 use oracle::listing::listing;
 use std::fs;
 use std::path::Path;
@@ -15,11 +17,12 @@ fn cases_list_as_the_original() {
     let cases = case_file("stdin");
     let mut expected = Vec::new();
     let mut text: Vec<u8> = Vec::new();
-    let mut count = 0;
+    let (mut count, mut left_out) = (0, 0);
     for line in cases.split_inclusive(|&b| b == b'\n') {
         if line.starts_with(b"==") {
             if count > 0 {
                 expected.extend(listing(&text).into_bytes());
+                left_out += usize::from(left_out::text(&text));
             }
             expected.extend(line);
             text.clear();
@@ -31,5 +34,5 @@ fn cases_list_as_the_original() {
     expected.extend(listing(&text).into_bytes());
     let shown = |bytes: &[u8]| bytes.escape_ascii().to_string();
     assert_eq!(shown(&case_file("stdout")), shown(&expected));
-    assert_eq!(count, 29);
+    assert_eq!((count, left_out), (32, 5));
 }

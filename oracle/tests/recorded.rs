@@ -3,7 +3,7 @@
 
 use oracle::boards::NESTED_DEPTH;
 use oracle::naive::{self, Cells};
-use oracle::{naive_text, vectors};
+use oracle::{left_out, naive_text, vectors};
 use std::fs;
 use std::path::Path;
 
@@ -119,8 +119,44 @@ fn boards_reach_every_kind_of_row() {
 
 #[test]
 fn texts_meet_every_refusal_and_the_naive_reading() {
+    let met = read_as_recorded("t");
+    assert_eq!(met[1..3], [0, 0]);
+    assert!(met[0] >= 50 && met[3..].iter().all(|&n| n >= 5), "{met:?}");
+}
+
+/// Texts that request 5 speaks of are all recorded under letters of their own,
+/// each with refusal 3 or 4.
+#[test]
+fn texts_of_request_5_stand_apart() {
+    let met = read_as_recorded("T");
+    assert!(met[3] >= 10 && met[4] >= 10, "{met:?}");
+    assert_eq!(met[3] + met[4], met.iter().sum());
+    let texts = recorded("texts.txt");
+    for (letter, of_board, is_left_out) in [
+        ("t", true, false),
+        ("T", true, true),
+        ("p", false, false),
+        ("L", false, true),
+    ] {
+        let records = fields_of(&texts, letter);
+        assert!(records.len() >= 5, "{letter}");
+        for fields in records {
+            let text = bytes_of(&fields[1]);
+            let found = if of_board {
+                left_out::text(&text)
+            } else {
+                left_out::list(&text)
+            };
+            assert_eq!(found, is_left_out, "{fields:?}");
+        }
+    }
+}
+
+/// How often each refusal, 0 for none, is recorded under a letter for texts of
+/// boards, all of them as the naive reading has it.
+fn read_as_recorded(letter: &str) -> [usize; 8] {
     let mut met = [0; 8];
-    for fields in fields_of(&recorded("texts.txt"), "t") {
+    for fields in fields_of(&recorded("texts.txt"), letter) {
         let refusal = bytes_of(&fields[2])[0];
         let answer = match refusal {
             0 => Ok(cells_of(&fields[3])),
@@ -129,6 +165,5 @@ fn texts_meet_every_refusal_and_the_naive_reading() {
         assert_eq!(naive_text::read(&bytes_of(&fields[1])), answer);
         met[refusal as usize] += 1;
     }
-    assert_eq!(met[1..3], [0, 0]);
-    assert!(met[0] >= 50 && met[3..].iter().all(|&n| n >= 5), "{met:?}");
+    met
 }

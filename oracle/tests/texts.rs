@@ -1,14 +1,22 @@
-//! Section 7's examples, read by the original and by the naive reading.
+//! Section 7's examples, read by the original and by the naive reading; those
+//! of request 5, which the two read differently, with both answers.
 
 use oracle::boards::{self, Dice, SORTS};
 use oracle::naive::{BLACK, Cells, EMPTY, POINTS, WHITE};
-use oracle::{naive_text, original};
+use oracle::{left_out, naive_text, original};
 
 /// What both readers say, which must be the same.
 fn read(text: &str) -> Result<Cells, u8> {
     let original = original::read(text);
     assert_eq!(naive_text::read(text.as_bytes()), original, "{text:?}");
     original
+}
+
+/// What the original says, and what the naive reading says, of a text that is
+/// left out.
+fn read_apart(text: &str) -> [Result<Cells, u8>; 2] {
+    assert!(left_out::text(text.as_bytes()), "{text:?}");
+    [original::read(text), naive_text::read(text.as_bytes())]
 }
 
 fn board(blacks: &[usize], whites: &[usize]) -> Cells {
@@ -21,15 +29,56 @@ fn board(blacks: &[usize], whites: &[usize]) -> Cells {
 /// The point is put in a list of moves: alone it would be a diagram.
 #[test]
 fn points_that_read() {
-    for (text, code) in [("H123", 116), ("H+12", 105), ("H08", 112), ("h8", 112)] {
+    for (text, code) in [("H08", 112), ("h8", 112), (" H15\t", 119), ("O15", 224)] {
         let moves = format!("{text},A1");
         assert_eq!(read(&moves), Ok(board(&[code], &[0])), "{text}");
     }
 }
 
+/// docs/DIFFERENCES.md: what the original reads and request 5 refuses.
+#[test]
+fn points_of_request_5() {
+    for (text, code) in [
+        ("H123", 116),
+        ("H012", 105),
+        ("H12x", 116),
+        ("H12 3", 116),
+        ("H+1", 105),
+        ("H+8", 112),
+        ("H+12", 105),
+    ] {
+        let read = Ok(board(&[code], &[0]));
+        assert_eq!(read_apart(&format!("{text},A1")), [read, Err(4)], "{text}");
+        let read = Ok(board(&[0], &[code]));
+        assert_eq!(read_apart(&format!("A1/{text}")), [read, Err(4)], "{text}");
+    }
+    // The letter is met first.
+    assert_eq!(read("+8,A1"), Err(3));
+}
+
+/// "3 for a second "/", even with nothing behind it (after the two lists are
+/// read)."
+#[test]
+fn a_second_slash() {
+    let read = Ok(board(&[112], &[128]));
+    for behind in ["J10", "", " ", "/", "not a point", "I99", ","] {
+        let text = format!("H8/I9/{behind}");
+        assert_eq!(read_apart(&text), [read, Err(3)], "{text}");
+    }
+    for (text, refusal) in [
+        ("H8/I99/", 4),
+        ("H99/I9/", 4),
+        ("H8//", 3),
+        ("//", 3),
+        ("H99/X1/", 4),
+    ] {
+        assert_eq!(read_apart(text), [Err(refusal); 2], "{text}");
+    }
+}
+
 #[test]
 fn points_refused() {
-    for text in ["H8x", "H 8", "H0", "H16", "H"] {
+    for text in ["H8x", "H 8", "H0", "H00", "H16", "H1x", "H", "Hx"] {
         assert_eq!(read(&format!("{text},A1")), Err(4), "{text}");
         assert_eq!(read(&format!("A1/{text}")), Err(4), "{text}");
     }
@@ -41,7 +90,6 @@ fn lists() {
     assert_eq!(read("H8"), Err(6));
     assert_eq!(read("A1,B1,A2"), Ok(board(&[0, 1], &[15])));
     assert_eq!(read("A1,B1,C1,A1"), Ok(board(&[30], &[15, 0])));
-    assert_eq!(read("A1/B1/never read"), Ok(board(&[0], &[15])));
     assert_eq!(read("A1/A1"), Ok(board(&[], &[0])));
     for text in ["/", "A1/", "/A1", "A1,", ",A1"] {
         assert_eq!(read(text), Err(3), "{text}");
@@ -83,8 +131,15 @@ fn diagram_refusals_in_order() {
 
 /// Each byte below 128 in every place of a point, and as cell and line end of
 /// a diagram: the space bytes, digits and letters are exactly the document's.
+/// Request 5 refuses what stands behind a point's two digits (any byte but
+/// space, comma and slash), a plus sign, and a second slash.
 #[test]
 fn every_byte_in_every_place() {
+    let mut left_out = Vec::new();
+    let mut both = |text: &str| match left_out::text(text.as_bytes()) {
+        true => left_out.push(text.to_owned()),
+        false => drop(read(text)),
+    };
     for byte in (0..128u8).map(char::from) {
         for text in [
             format!("{byte}H8,A1"),
@@ -95,10 +150,13 @@ fn every_byte_in_every_place() {
             format!("H15{byte},A1"),
             format!("A1/{byte}"),
         ] {
-            let _ = read(&text);
+            both(&text);
         }
         let line = format!("o{}{byte}x", ".".repeat(12));
-        let _ = read(&[line.as_str(); 15].join("\n"));
-        let _ = read(&[line.as_str(); 15].join(&byte.to_string()));
+        both(&[line.as_str(); 15].join("\n"));
+        both(&[line.as_str(); 15].join(&byte.to_string()));
     }
+    let is_refused = |text: &String| naive_text::read(text.as_bytes()).is_err();
+    assert!(left_out.iter().all(is_refused));
+    assert_eq!(left_out.len(), (128 - 8) + 2 + 3);
 }

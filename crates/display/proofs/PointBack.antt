@@ -17,7 +17,7 @@ use Rattle.rules.proofs.Logic.{all-elim, and-left, and-right, not-false}
 use Rattle.rules.proofs.Lists.{gather-front, gather-cong}
 use Rattle.rules.proofs.Refusals.{none-first}
 use Rattle.text.specs.Bytes.{blank, comma, digitZero, capitalA, space, trim, trimStart, trimEnd, keepEnd, has, parts, textRefusal}
-use Rattle.text.specs.Points.{columnOf, isDigit, oneByte, twoBytes, numberOf, columnIn, rowIn, placeRefusal, itemRefusal, itemCode}
+use Rattle.text.specs.Points.{columnOf, digitValue, numberOf, columnIn, rowIn, placeRefusal, itemRefusal, itemCode}
 use Rattle.text.specs.Points.{itemsRefusal, itemCodes, pointsRefusal, pointsIn, pointTextRefusal, listTextRefusal}
 use Rattle.display.specs.Texts.{digitText, numberText, pointText, itemText, pointItem, pointsText}
 use Rattle.display.proofs.Sizes.{point-short}
@@ -30,7 +30,7 @@ reads : ℕ → Bool
 reads p = eqb (itemRefusal (pointText p)) 0 && (eqb (itemCode (pointText p)) p && not (has comma (pointText p)))
 
 all-read : T (allBelow 225 reads)
-unfolding reads pointText numberText itemRefusal itemCode placeRefusal columnIn rowIn columnOf numberOf oneByte twoBytes isDigit
+unfolding reads pointText numberText itemRefusal itemCode placeRefusal columnIn rowIn columnOf numberOf digitValue
     trim trimStart trimEnd keepEnd space has first unless allBelow
 all-read = tt
 

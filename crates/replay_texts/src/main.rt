@@ -1,5 +1,5 @@
 // Replays recorded answers about texts, read from standard input: asks each question again and holds the answer to the record. Writes
-// what `records` says of a replay.
+// what `records` says of a replay. The answers are the original's, but under `T` and `L`, the texts that request 5 speaks of.
 mod fields;
 mod lines;
 mod points;
@@ -36,10 +36,10 @@ fn replay_all(text: &[u8]) {
     let mut at = 0;
     while at < text.len() {
         let record = line_at(text, at);
-        count(&mut counts, b"tdDypPiIg", record, replay(record));
+        count(&mut counts, b"tTdDypLPiIg", record, replay(record));
         at = next_line(text, at);
     }
-    say_counts(b"tdDypPiIg", &counts);
+    say_counts(b"tTdDypLPiIg", &counts);
 }
 
 // A record that is not well formed is not asked about, and differs.
@@ -48,11 +48,11 @@ fn replay(record: &[u8]) -> u32 {
         return answer(0, false);
     }
     match byte_at(record, 0) {
-        b't' => replay_text(record),
+        b't' | b'T' => replay_text(record),
         b'd' => replay_diagram(record, 0),
         b'D' => replay_diagram(record, 5),
         b'y' => replay_point(record),
-        b'p' => replay_list(record),
+        b'p' | b'L' => replay_list(record),
         b'P' => replay_listed(record),
         b'i' => replay_read_line(record),
         b'I' => replay_line(record),

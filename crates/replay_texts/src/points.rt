@@ -43,7 +43,7 @@ fn replay_named(t: u32, record: &[u8]) -> u32 {
     )
 }
 
-// `p`: the list or the refusal is recorded.
+// `p` and `L`: the list or the refusal is recorded.
 pub(crate) fn replay_list(record: &[u8]) -> u32 {
     let rest = rest_of(record);
     answer(0, reads_list(text_in(record), byte(rest, 1), tail(rest, 4)))

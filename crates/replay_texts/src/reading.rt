@@ -1,4 +1,4 @@
-// Records about boards as text: `t` a text that is read, `d` and `D` diagrams that are written.
+// Records about boards as text: `t` and `T` a text that is read, `d` and `D` diagrams that are written.
 use super::fields::rest_of;
 use super::fields::text_in;
 use super::words::is_told;
@@ -16,8 +16,8 @@ use records::cells_of;
 use records::with_cell;
 ghost use Prim.Native.Nat.{_≤_};
 
-// `t`: the board or the refusal is recorded. It is asked into a buffer with room to spare, into one of just a board's length, and into one
-// that is a byte short, which is refused last.
+// `t` and `T`: the board or the refusal is recorded. It is asked into a buffer with room to spare, into one of just a board's length, and
+// into one that is a byte short, which is refused last.
 pub(crate) fn replay_text(record: &[u8]) -> u32 {
     let digits = text_in(record);
     let rest = rest_of(record);

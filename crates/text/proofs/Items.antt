@@ -1,14 +1,14 @@
 -- Laws of a point in text and of a comma list, one item a turn. Assumes nothing.
 use mathlib.Core.Path.{_≡_, refl, ap, subst, sym, _∙_}
-use mathlib.Core.Bool.{true, false}
+use mathlib.Core.Bool.{Bool, true, false, _&&_, cond}
 use mathlib.Core.Logic.{_⊎_, inl, inr}
 use mathlib.Core.List.{List, [], _∷_, _++_}
-use Prim.Native.Nat.{ℕ, suc, _+_, _≤_, _<_}
+use Prim.Native.Nat.{ℕ, suc, _+_, _*_, _-_, _≤_, _<_}
 use native.Mathlib.Omega.{arith}
-use lib.Dec.{ltb}
+use lib.Dec.{ltb, leb}
 use lib.ListN.{length, getD, take, drop, length-drop}
 use lib.Seq.{drop-drop, take-suc, take-all}
-use borrow.Author.Tests.{eq-eqb, ne-eqb, ltb-true, ltb-false}
+use borrow.Author.Tests.{eq-eqb, ne-eqb, ltb-true, ltb-false, leb-true}
 use Rattle.rules.specs.Refusals.{first}
 use Rattle.rules.specs.Answers.{numberAnswer}
 use Rattle.rules.specs.declared.answer.NumberAnswer.the-variants as number
@@ -17,8 +17,8 @@ use Rattle.rules.proofs.Refusals.{given, first-none}
 use Rattle.lent.specs.Lists.{Wrote, zeros, keptTo, keptIn}
 use Rattle.lent.specs.Slices.{findAt}
 use Rattle.lent.proofs.Laws.{wrote-as, wrote-keep, wrote-held, length-zeros}
-use Rattle.text.specs.Bytes.{comma, trim, parts, textRefusal}
-use Rattle.text.specs.Points.{oneByte, twoBytes, numberOf, columnIn, rowIn, itemAt, itemRefusal, itemCode, itemsRefusal, itemCodes}
+use Rattle.text.specs.Bytes.{comma, digitZero, digitNine, trim, parts, textRefusal}
+use Rattle.text.specs.Points.{digitValue, numberOf, columnIn, rowIn, itemAt, itemRefusal, itemCode, itemsRefusal, itemCodes}
 use Rattle.text.specs.Points.{leadingCodes, slipNumber, pointsRefusal, leadingIn, slipIn, pointTextRefusal, leadingAnswer, listFound}
 use Rattle.text.specs.declared.point.Item.{Item}
 use Rattle.text.specs.declared.points.Leading.{Leading}
@@ -26,25 +26,38 @@ use Rattle.text.proofs.Places.{parts-last, parts-cut}
 use Rattle.text.proofs.Marks.{next-in, next-is, next-rest, next-none}
 
 -- ---- a number behind a letter
-pub number-none : (s : List ℕ) → length s < 2 → numberOf (drop 1 s) ≡ 0
-unfolding numberOf
-number-none [] h = refl
-number-none (a ∷ []) h = refl
-number-none (a ∷ b ∷ s) h = omega arith
+pub digit-small : (b : ℕ) → digitValue b ≤ 16
+unfolding digitValue
+digit-small b = go (leb b digitNine) refl (leb digitZero b)
+  where
+    go : (t : Bool) → leb b digitNine ≡ t → (u : Bool) → cond (u && t) (b - digitZero) 16 ≤ 16
+    go true e true = let h = leb-true b digitNine e in omega arith
+    go true e false = omega arith
+    go false e true = omega arith
+    go false e false = omega arith
 
-pub number-one : (s : List ℕ) → length s ≡ 2 → numberOf (drop 1 s) ≡ oneByte (getD s 1 0)
+pub number-one : (s : List ℕ) → length s ≡ 2 → numberOf (drop 1 s) ≡ digitValue (getD s 1 0)
 unfolding numberOf
 number-one [] h = omega arith
 number-one (a ∷ []) h = omega arith
 number-one (a ∷ b ∷ []) h = refl
 number-one (a ∷ b ∷ e ∷ s) h = omega arith
 
-pub number-two : (s : List ℕ) → 2 < length s → numberOf (drop 1 s) ≡ twoBytes (getD s 1 0) (getD s 2 0)
+pub number-two : (s : List ℕ) → length s ≡ 3 → numberOf (drop 1 s) ≡ 10 * digitValue (getD s 1 0) + digitValue (getD s 2 0)
 unfolding numberOf
 number-two [] h = omega arith
 number-two (a ∷ []) h = omega arith
 number-two (a ∷ b ∷ []) h = omega arith
-number-two (a ∷ b ∷ e ∷ s) h = refl
+number-two (a ∷ b ∷ e ∷ []) h = refl
+number-two (a ∷ b ∷ e ∷ f ∷ s) h = omega arith
+
+pub number-none : (s : List ℕ) → (length s ≡ 2 → ⊥) → (length s ≡ 3 → ⊥) → numberOf (drop 1 s) ≡ 0
+unfolding numberOf
+number-none [] p q = refl
+number-none (a ∷ []) p q = refl
+number-none (a ∷ b ∷ []) p q = absurd (p refl)
+number-none (a ∷ b ∷ e ∷ []) p q = absurd (q refl)
+number-none (a ∷ b ∷ e ∷ f ∷ s) p q = refl
 
 -- ---- a point
 module _ (s : List ℕ) (r : Item) (e : r ≡ itemAt (columnIn s) (rowIn s)) where

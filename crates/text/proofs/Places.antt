@@ -1,13 +1,16 @@
 -- Laws of places in a text: a text trimmed, a byte in it, the parts between a byte. Assumes nothing.
 use mathlib.Core.Path.{_≡_, refl, ap, sym, _∙_}
 use mathlib.Core.Bool.{Bool, true, false, not, _||_, cond}
+use mathlib.Core.Logic.{_⊎_, inl, inr}
 use mathlib.Core.List.{List, [], _∷_, _++_}
 use Prim.Native.Nat.{ℕ, zero, suc, _+_, _≤_, _<_, _-_}
 use native.Mathlib.Nat.{le-of-suc-le-suc, not-suc-le-zero}
 use native.Mathlib.Omega.{arith}
-use lib.Dec.{eqb}
+use lib.Dec.{eqb, leb}
 use lib.ListN.{length, getD, take, drop, length-drop, length-take}
 use lib.Seq.{drop-drop, take-suc, length-take-le}
+use borrow.Author.Tests.{leb-true, leb-false}
+use Rattle.rules.proofs.Logic.{decide}
 use Rattle.lent.specs.Slices.{firstAt, findAt}
 use Rattle.text.specs.Bytes.{space, trimStart, trimEnd, keepEnd, trim, has, before, behind, parts, ontoFirst}
 use Rattle.text.specs.Bytes.{leading}
@@ -90,6 +93,14 @@ has-no d (b ∷ s) h = go (eqb b d) (has-no d s) h
     go true r h = absurd (not-suc-le-zero h)
     go false r h = r (le-of-suc-le-suc h)
 
+-- the test of the code: no d is found before the end
+pub has-not : (d n : ℕ) (s : List ℕ) → n ≡ findAt d s → leb (length s) n ≡ not (has d s)
+has-not d n s e = go (decide (leb (length s) n))
+  where
+    go : (leb (length s) n ≡ true) ⊎ (leb (length s) n ≡ false) → leb (length s) n ≡ not (has d s)
+    go (inl t) = let h = leb-true (length s) n t in rw (t, has-no d s (omega arith))
+    go (inr t) = let h = leb-false (length s) n t in rw (t, has-yes d s (omega arith))
+
 pub before-take : (d : ℕ) (s : List ℕ) → before d s ≡ take (findAt d s) s
 unfolding firstAt before
 before-take d [] = refl
@@ -146,8 +157,9 @@ part-behind d n s from rest e p q =
     let z : findAt d s + 1 ≡ suc (findAt d s) = omega arith in
     q ∙ ap (drop 1) (p ∙ ap (λ (k : ℕ). drop k s) e) ∙ drop-drop 1 (findAt d s) s ∙ ap (λ (k : ℕ). drop k s) z ∙ sym (behind-drop d s)
 
--- what stands before the first d, and before the next one
+-- what stands before the first d, and before the next one; and what stands behind the first
 pub two-lists : (d n m : ℕ) (s part from rest other : List ℕ) → n ≡ findAt d s → part ≡ take n s → from ≡ drop n s → rest ≡ drop 1 from
-    → m ≡ findAt d rest → other ≡ take m rest → (part ≡ before d s) × (other ≡ before d (behind d s))
+    → m ≡ findAt d rest → other ≡ take m rest → (part ≡ before d s) × (other ≡ before d (behind d s)) × (rest ≡ behind d s)
 two-lists d n m s part from rest other en ep ef er em eo =
-    (part-before d n s part en ep, part-before d m rest other em eo ∙ ap (before d) (part-behind d n s from rest en ef er))
+    let e = part-behind d n s from rest en ef er in
+    (part-before d n s part en ep, part-before d m rest other em eo ∙ ap (before d) e, e)

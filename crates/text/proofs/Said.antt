@@ -10,19 +10,19 @@ use lib.Dec.{eqb, leb, ltb, leb→le, ltb→lt, lt→ltb}
 use lib.ListN.{length, getD, take}
 use borrow.Author.Tests.{eq-eqb, ne-eqb}
 use Rattle.rules.specs.Refusals.{first, unless}
-use Rattle.rules.proofs.Refusals.{first-none, passed, pass}
+use Rattle.rules.proofs.Refusals.{first-none, none-first, passed, pass}
 use Rattle.rules.proofs.Logic.{decide, and-left, and-right, all-intro}
 use Rattle.lent.specs.Lists.{Held, padded}
 use Rattle.lent.proofs.Laws.{held-take}
 use Rattle.cells.specs.Answers.{cellsAnswer}
 use Rattle.cells.specs.Cells.{codesRefusal, stonesCells}
-use Rattle.text.specs.Bytes.{newline, comma, slash, trim, has, parts, textRefusal}
+use Rattle.text.specs.Bytes.{newline, comma, slash, trim, has, behind, parts, textRefusal}
 use Rattle.text.specs.Points.{columnIn, rowIn, placeRefusal, itemRefusal, itemCode, itemsRefusal, itemCodes, pointsRefusal}
 use Rattle.text.specs.Points.{pointsIn, leadingIn, listTextRefusal, leadingAnswer, listFound, leadingFound}
-use Rattle.text.specs.Reading.{blackList, whiteList, stonesTextRefusal, stonesIn, movesIn, diagramRefusal, diagramCells, formRefusal}
-use Rattle.text.specs.Reading.{readRefusal, readCells, diagramTextRefusal, diagramTextCells}
+use Rattle.text.specs.Reading.{blackList, whiteList, slashRefusal, stonesTextRefusal, stonesIn, movesIn, diagramRefusal}
+use Rattle.text.specs.Reading.{diagramCells, formRefusal, readRefusal, readCells, diagramTextRefusal, diagramTextCells}
 use Rattle.text.specs.declared.points.Leading.{Leading}
-use Rattle.text.proofs.Places.{has-yes, has-no}
+use Rattle.text.proofs.Places.{has-yes, has-no, has-not}
 use Rattle.text.proofs.Items.{codes-all}
 use Rattle.text.proofs.Lined.{refused-as}
 use Rattle.lent.specs.Slices.{findAt}
@@ -74,8 +74,11 @@ module _ (s : List ℕ) (r : Leading) (h : r ≡ listFound s) where
       pub codes-are : codes ≡ pointsIn s
       codes-are = e ∙ held-take 4097 list-held
 
+      codes-good : codesRefusal codes ≡ 0
+      codes-good = ap codesRefusal codes-are ∙ points-good s (sym list-refusal ∙ z)
+
       pub codes-pass : codesRefusal codes ≡ pointsRefusal s
-      codes-pass = ap codesRefusal codes-are ∙ points-good s (sym list-refusal ∙ z) ∙ sym (sym list-refusal ∙ z)
+      codes-pass = codes-good ∙ sym (sym list-refusal ∙ z)
 
 -- .. of a text that is a list alone
 module _ (s : List ℕ) (r : Leading) (h : r ≡ leadingFound s) where
@@ -94,23 +97,31 @@ module _ (s : List ℕ) (r : Leading) (h : r ≡ leadingFound s) where
       let n = first-none (textRefusal s) (pointsRefusal s) (sym leading-refusal ∙ z) in
       list-held s r (h ∙ rw (eq-eqb (textRefusal s) 0 (n .0))) z
 
--- ---- the stones of two lists
-module _ (s part other : List ℕ) (e : (part ≡ blackList s) × (other ≡ whiteList s)) (b w : Leading) (hb : b ≡ listFound part)
-    (hw : w ≡ listFound other) where
-  pub stones-told : first (b .refused) (w .refused) ≡ stonesTextRefusal s
-  unfolding stonesTextRefusal
-  stones-told = ap₂ first (list-refusal part b hb ∙ ap pointsRefusal (e .0)) (list-refusal other w hw ∙ ap pointsRefusal (e .1))
+-- ---- the stones of two lists, and a second slash, as the code finds it
+module _ (s part other rest : List ℕ) (e : (part ≡ blackList s) × (other ≡ whiteList s) × (rest ≡ behind slash s)) (b w : Leading)
+    (hb : b ≡ listFound part) (hw : w ≡ listFound other) (m : ℕ) (em : m ≡ findAt slash rest) (lists extra refused : ℕ)
+    (el : lists ≡ first (b .refused) (w .refused)) (ex : extra ≡ unless (leb (length rest) m) 3) (er : refused ≡ first lists extra) where
+  lists-told : lists ≡ first (pointsRefusal (blackList s)) (pointsRefusal (whiteList s))
+  lists-told =
+      el ∙ ap₂ first (list-refusal part b hb ∙ ap pointsRefusal (e .0)) (list-refusal other w hw ∙ ap pointsRefusal (e .1))
 
-  pub stones-said : first (b .refused) (w .refused) ≡ 0 → (blacks whites : List ℕ) → blacks ≡ take (b .len) (b .codes)
-      → whites ≡ take (w .len) (w .codes)
+  slash-told : extra ≡ slashRefusal s
+  unfolding slashRefusal
+  slash-told = ex ∙ rw (has-not slash m rest em, e .2)
+
+  pub stones-told : refused ≡ stonesTextRefusal s
+  unfolding stonesTextRefusal
+  stones-told = er ∙ ap₂ first lists-told slash-told
+
+  pub stones-said : refused ≡ 0 → (blacks whites : List ℕ) → blacks ≡ take (b .len) (b .codes) → whites ≡ take (w .len) (w .codes)
       → cellsAnswer (first (codesRefusal blacks) (codesRefusal whites)) (stonesCells blacks whites) ≡ cellsAnswer (stonesTextRefusal s)
       (stonesIn s)
-  unfolding stonesTextRefusal stonesIn
+  unfolding stonesIn
   stones-said z blacks whites p q =
-      let n = first-none (b .refused) (w .refused) z in
+      let n = first-none (b .refused) (w .refused) (sym el ∙ first-none lists extra (sym er ∙ z) .0) in
       ap₂ cellsAnswer
-      (ap₂ first (codes-pass part b hb (n .0) blacks p ∙ ap pointsRefusal (e .0))
-      (codes-pass other w hw (n .1) whites q ∙ ap pointsRefusal (e .1)))
+      (none-first (codesRefusal blacks) (codesRefusal whites) (codes-good part b hb (n .0) blacks p) (codes-good other w hw (n .1) whites q)
+      ∙ sym (sym stones-told ∙ z))
       (ap₂ stonesCells (codes-are part b hb (n .0) blacks p ∙ ap pointsIn (e .0)) (codes-are other w hw (n .1) whites q
       ∙ ap pointsIn (e .1)))
 

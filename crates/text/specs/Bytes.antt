@@ -17,9 +17,6 @@ newline = 10
 abbrev pub blank : ℕ
 blank = 32
 
-abbrev pub plus : ℕ
-plus = 43
-
 abbrev pub comma : ℕ
 comma = 44
 

@@ -1,6 +1,6 @@
--- A point in text, and a comma list of them (section 7). An item of a list is the text of one point. The quoted sentences are document
--- 01's.
-use mathlib.Core.Bool.{Bool, _&&_, cond}
+-- A point in text, and a comma list of them (section 7, and request 5). An item of a list is the text of one point. The quoted sentences
+-- are document 01's, and 02's where it is named.
+use mathlib.Core.Bool.{_&&_, cond}
 use mathlib.Core.List.{List, [], _∷_}
 use Prim.Native.Nat.{ℕ, _+_, _*_, _-_}
 use lib.Dec.{eqb, leb, ltb}
@@ -8,7 +8,7 @@ use lib.ListN.{length, getD, drop}
 use Rattle.rules.specs.Refusals.{noColumn, noRow, unless, first}
 use Rattle.rules.specs.Point.{codeOf}
 use Rattle.lent.specs.Lists.{padded}
-use Rattle.text.specs.Bytes.{plus, comma, digitZero, digitNine, capitalA, capitalO, smallA, smallO, trim, parts, textRefusal}
+use Rattle.text.specs.Bytes.{comma, digitZero, digitNine, capitalA, capitalO, smallA, smallO, trim, parts, textRefusal}
 use Rattle.text.specs.declared.point.Item.{Item}
 use Rattle.text.specs.declared.points.Leading.{Leading}
 
@@ -19,21 +19,17 @@ unfoldable pub columnOf : ℕ → ℕ
 columnOf b =
     cond (leb capitalA b && leb b capitalO) (b - capitalA) (cond (leb smallA b && leb b smallO) (b - smallA) 15)
 
-unfoldable pub isDigit : ℕ → Bool
-isDigit b = leb digitZero b && leb b digitNine
+-- the value of a digit, and 16 for any other byte: no number with such a byte is 1 to 15
+unfoldable pub digitValue : ℕ → ℕ
+digitValue b = cond (leb digitZero b && leb b digitNine) (b - digitZero) 16
 
--- one byte as a number, and two: "a leading "+" allowed". What is no number is 0, which is refused as they are.
-unfoldable pub oneByte : ℕ → ℕ
-oneByte b = cond (isDigit b) (b - digitZero) 0
-
-unfoldable pub twoBytes : ℕ → ℕ → ℕ
-twoBytes b e = cond (eqb b plus) (oneByte e) (cond (isDigit b && isDigit e) (10 * (b - digitZero) + (e - digitZero)) 0)
-
--- "then at most two bytes read as a number .. Bytes after those are ignored"
+-- "exactly one letter and one or two digits after trimming: no plus sign and nothing behind. H08 stays good" (document 02): the number of
+-- what stands behind the letter, and 0 where that is nothing or more than two bytes
 unfoldable pub numberOf : List ℕ → ℕ
 numberOf [] = 0
-numberOf (b ∷ []) = oneByte b
-numberOf (b ∷ e ∷ s) = twoBytes b e
+numberOf (b ∷ []) = digitValue b
+numberOf (b ∷ e ∷ []) = 10 * digitValue b + digitValue e
+numberOf (b ∷ e ∷ f ∷ s) = 0
 
 -- the column and the row's number that a text names
 unfoldable pub columnIn : List ℕ → ℕ

@@ -1,26 +1,33 @@
--- What a text says (section 7): the 225 cells of a board, or the number of a refusal. The quoted sentences are document 01's.
-use mathlib.Core.Bool.{Bool, cond}
+-- What a text says (section 7, and request 5): the 225 cells of a board, or the number of a refusal. The quoted sentences are document
+-- 01's, and 02's where it is named.
+use mathlib.Core.Bool.{Bool, not, cond}
 use mathlib.Core.List.{List, []}
 use Prim.Native.Nat.{ℕ, _-_}
 use lib.Dec.{eqb, leb}
 use lib.ListN.{length, getD}
-use Rattle.rules.specs.Refusals.{overLength, wrongCount, wrongSize, unless, first}
+use Rattle.rules.specs.Refusals.{noColumn, overLength, wrongCount, wrongSize, unless, first}
 use Rattle.rules.specs.Tools.{allBelow, tab}
 use Rattle.rules.specs.Point.{xOf, yOf}
 use Rattle.cells.specs.Cells.{movesCells, stonesCells}
 use Rattle.text.specs.Bytes.{newline, comma, slash, smallO, smallX, trim, has, before, behind, parts, dense, textRefusal}
 use Rattle.text.specs.Points.{pointsRefusal, pointsIn}
 
--- ---- "Stones: two comma lists, black then white; anything after a second "/" is ignored"
+-- ---- "Stones: two comma lists, black then white"
 
+-- what stands before the first slash, and what stands between it and the second, or the end
 abbrev pub blackList : List ℕ → List ℕ
 blackList s = before slash s
 
 abbrev pub whiteList : List ℕ → List ℕ
 whiteList s = before slash (behind slash s)
 
+-- "3 for a second "/", even with nothing behind it" (document 02): the number of an item without a letter
+unfoldable pub slashRefusal : List ℕ → ℕ
+slashRefusal s = unless (not (has slash (behind slash s))) noColumn
+
+-- ".. (after the two lists are read)": what stands behind the second slash is not read
 unfoldable pub stonesTextRefusal : List ℕ → ℕ
-stonesTextRefusal s = first (pointsRefusal (blackList s)) (pointsRefusal (whiteList s))
+stonesTextRefusal s = first (first (pointsRefusal (blackList s)) (pointsRefusal (whiteList s))) (slashRefusal s)
 
 unfoldable pub stonesIn : List ℕ → List ℕ
 stonesIn s = stonesCells (pointsIn (blackList s)) (pointsIn (whiteList s))

@@ -10,6 +10,7 @@ use lent::find;
 use lent::head;
 use lent::tail;
 use rules::first;
+use rules::unless;
 ghost use mathlib.Core.Path.{_≡_};
 ghost use Prim.Native.Nat.{_≤_};
 ghost use lib.ListN.{length};
@@ -35,16 +36,18 @@ pub fn read_cells(text: &[u8]) -> CellsAnswer
     diagram_in(t)
 }
 
-// Black's list, a slash, White's list; what follows a second slash is not looked at.
+// Black's list, a slash, White's list. A second slash is refused, behind whatever is refused of the lists.
 fn stones_in(t: &[u8]) -> CellsAnswer
     requires { ⌜ length (now t) ≤ 4096 ⌝ }
     ensures { λ r. ⌜ r ≡ cellsAnswer (stonesTextRefusal (now (t .entry))) (stonesIn (now (t .entry))) ⌝ }
 {
     let slash = find(t, b'/');
     let rest = tail(tail(t, slash), 1);
+    let end = find(rest, b'/');
     let blacks = leading_in(head(t, slash));
-    let whites = leading_in(head(rest, find(rest, b'/')));
-    let refused = first(blacks.refused, whites.refused);
+    let whites = leading_in(head(rest, end));
+    let lists = first(blacks.refused, whites.refused);
+    let refused = first(lists, unless(rest.len() <= end, 3));
     if refused != 0 {
         return CellsAnswer::of(refused, [0u8; 225]);
     }

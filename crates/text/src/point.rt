@@ -1,12 +1,13 @@
-// A point in text: its letter, and the number behind it.
+// A point in text: one letter, and one or two digits behind it.
 use super::bytes::text_refusal;
 use super::bytes::trimmed;
 use rules::NumberAnswer;
 use rules::first;
 ghost use mathlib.Core.Path.{_≡_};
+ghost use Prim.Native.Nat.{_+_, _*_};
 ghost use lib.ListN.{getD, drop};
 ghost use Rattle.rules.specs.Answers.{numberAnswer};
-ghost use Rattle.text.specs.Points.{columnOf, oneByte, twoBytes, numberOf, itemAt, refusedItem, columnIn, rowIn};
+ghost use Rattle.text.specs.Points.{columnOf, digitValue, numberOf, itemAt, refusedItem, columnIn, rowIn};
 ghost use Rattle.text.specs.Points.{itemCode, pointTextRefusal};
 
 // A point's code, or the number of a refusal and 0.
@@ -71,47 +72,32 @@ fn column(b: u8) -> u8
     }
 }
 
-// The number behind a point's letter; 0 for none.
+// The number behind a point's letter, of one digit or of two; 0 where there is nothing, or more.
 fn number(s: &[u8]) -> u8
     ensures { λ r. ⌜ r ≡ numberOf (drop 1 (now (s .entry))) ⌝ }
 {
     let n = s.len();
-    if n < 2 {
-        return 0;
-    }
     if n == 2 {
-        return one_byte(s[1]);
+        return digit_value(s[1]);
     }
-    two_bytes(s[1], s[2])
+    if n == 3 {
+        return two_digits(s[1], s[2]);
+    }
+    0
 }
 
-fn one_byte(b: u8) -> u8
-    ensures { λ r. ⌜ r ≡ oneByte b ⌝ }
+fn two_digits(b: u8, e: u8) -> u8
+    ensures { λ r. ⌜ r ≡ 10 * digitValue b + digitValue e ⌝ }
+{
+    10 * digit_value(b) + digit_value(e)
+}
+
+// The value of a digit, and 16 for a byte that is none.
+fn digit_value(b: u8) -> u8
+    ensures { λ r. ⌜ r ≡ digitValue b ⌝ }
 {
     match b {
         b'0'..=b'9' => b - b'0',
-        _ => 0,
+        _ => 16,
     }
-}
-
-// A sign and a digit, or two digits.
-fn two_bytes(b: u8, e: u8) -> u8
-    ensures { λ r. ⌜ r ≡ twoBytes b e ⌝ }
-{
-    if b == b'+' {
-        return one_byte(e);
-    }
-    if b < b'0' {
-        return 0;
-    }
-    if b'9' < b {
-        return 0;
-    }
-    if e < b'0' {
-        return 0;
-    }
-    if b'9' < e {
-        return 0;
-    }
-    10 * (b - b'0') + (e - b'0')
 }

@@ -8,6 +8,9 @@
 //! by its verdicts and its rows of five. Lent bytes hold random numbers before each call, so
 //! a byte that is written where none should be is seen.
 //!
+//! Texts that request 5 of document 02 speaks of are left out of the comparison with the original,
+//! by `oracle::left_out`. They are held to the naive reading, and counted.
+//!
 //! What the fast referee is asked about rows and verdicts, the second referee is asked right after
 //! it: a comparison of its own, held to the same answer.
 //!

@@ -1,6 +1,7 @@
 //! The differential run finds nothing in ours, and what is wrong in hosts that are wrong.
 
 use oracle::naive_text::write_diagram;
+use oracle::{left_out, original};
 use runs::differential::call::{Call, GUARD, Host, Lent, NAMES, Question, ask};
 use runs::differential::judge::{Difference, Judge, Progress};
 use runs::differential::tally::Tally;
@@ -71,6 +72,9 @@ fn ours_has_no_difference_and_every_refusal_is_met() {
         assert!(count.comparisons > refused, "{name} answers too");
     }
     assert_both_asked(&tally);
+    // Some texts are left out of the comparison with the original, most are not.
+    let read = tally.counts[Call::Read.number()].comparisons;
+    assert!((1..read / 4).contains(&tally.left_out), "{read} read");
 }
 
 /// The second referee's functions are counted under their own names, and asked what the fast one's
@@ -245,6 +249,27 @@ fn a_refusal_that_writes_is_found() {
     assert_eq!(found.got.word, 6 << 16);
     // The empty text is no diagram: one line.
     assert_eq!(found.size(), (0, 0));
+}
+
+/// The original's own reading, where request 5 reads otherwise.
+#[test]
+fn the_old_reading_of_texts_is_found() {
+    let wrong = |call: &Call, given: &[u8], lent: &mut Lent| {
+        let word = ask(call, given, lent);
+        let is_left_out = *call == Call::Read && left_out::text(given);
+        match std::str::from_utf8(given).map(original::read) {
+            Ok(Ok(cells)) if is_left_out && given.len() <= 4096 && lent.len() >= 225 => {
+                lent[..225].copy_from_slice(&cells);
+                225
+            }
+            _ => word,
+        }
+    };
+    let found = only_difference(&wrong);
+    assert!([3 << 16, 4 << 16].contains(&found.expected.word));
+    assert_eq!(found.got.word, 225);
+    // Two points, what parts them, and a second slash or a plus sign.
+    assert_eq!(found.size(), (6, 6));
 }
 
 #[test]

@@ -62,6 +62,11 @@ Every record starts with `SIZE BLACKS WHITES`, the line's size and two masks.
 - `y CODE TEXT` the text of a point.
 - `p TEXT 00 LIST` a text that reads as a list of points, `p TEXT R` one that
   is refused; `P TEXT LIST` the text of a list of points.
+- `T ..` and `L ..` have the forms of `t` and `p` and stand at the end of the
+  file. They are not the original's answers: request 5 of document 02 speaks of
+  these texts (`oracle/src/left_out.rs`: a point with a plus sign or with
+  something behind two digits, a second slash), and the answers are those of
+  the naive reading, `oracle/src/naive_text.rs`.
 - `g BLACKS WHITES TEXT` a segment written as text.
 - `i TEXT SIZE BLACKS WHITES` a text that reads as a line, `i TEXT ff` one that
   is too long. `I SIZE BLACKS WHITES TEXT` a line written as text. Sizes here
@@ -81,7 +86,8 @@ pub fn text(files: &[(&'static str, String)]) -> String {
     out.push_str(
         "Answers of the original, `src/board` of renju-note/quintet at commit\n\
          8219b71be2, to questions about boards, lines, texts and addresses. They are\n\
-         replayed to see that a port answers the same.\n\n",
+         replayed to see that a port answers the same. The records `T` and `L` of\n\
+         texts.txt alone are not the original's.\n\n",
     );
     writeln!(
         out,

@@ -1,4 +1,6 @@
-//! `texts.txt`: texts read as boards and lines, and both written as text.
+//! `texts.txt`: texts read as boards and lines, and both written as text. Texts
+//! that request 5 speaks of come last, under letters of their own, with the
+//! answers of the naive reading.
 
 use super::{Records, SEED, byte, cells_field, list, mask};
 use crate::board::line::Line;
@@ -7,13 +9,14 @@ use crate::board::point::Points;
 use crate::board::segment::Segment;
 use crate::boards::{self, Dice};
 use crate::original::{self, Cells};
-use crate::texts;
+use crate::{left_out, naive_text, texts};
 
 pub fn text() -> String {
     let mut dice = Dice::new(SEED + 2);
     let mut out = Records::default();
+    let mut ours = Records::default();
     out.comment("answers of the original about texts; the forms are in README.md");
-    read_texts(&mut out, &mut dice);
+    read_texts(&mut out, &mut ours, &mut dice);
     out.comment("boards written as text");
     for moves in [0, 15, 60] {
         written(&mut out, &boards::game_of(&mut dice, moves.max(1)));
@@ -35,12 +38,17 @@ pub fn text() -> String {
         list_written(&mut out, &mut dice, points);
     }
     for _ in 0..60 {
-        list_read(&mut out, &mut dice);
+        list_read(&mut out, &mut ours, &mut dice);
     }
-    out.0
+    out.comment("not the original's answers: texts of request 5, by the naive reading");
+    out.0 + &ours.0
 }
 
-fn read_texts(out: &mut Records, dice: &mut Dice) {
+fn read_texts(out: &mut Records, ours: &mut Records, dice: &mut Dice) {
+    let mut read = |out: &mut Records, text: &str| match left_out::text(text.as_bytes()) {
+        true => read_by(ours, 'T', text, naive_text::read(text.as_bytes())),
+        false => read_by(out, 't', text, original::read(text)),
+    };
     out.comment("texts by hand");
     for text in texts::short_examples() {
         read(out, &text);
@@ -63,12 +71,12 @@ fn read_texts(out: &mut Records, dice: &mut Dice) {
     }
 }
 
-/// `t`: a text read as a board.
-fn read(out: &mut Records, text: &str) {
+/// `t`: a text read as a board, by the original; `T`: by the naive reading.
+fn read_by(out: &mut Records, letter: char, text: &str, answer: Result<Cells, u8>) {
     let bytes = list(text.as_bytes());
-    match original::read(text) {
-        Ok(cells) => out.record('t', &[bytes, byte(0), cells_field(&cells)]),
-        Err(refusal) => out.record('t', &[bytes, byte(refusal)]),
+    match answer {
+        Ok(cells) => out.record(letter, &[bytes, byte(0), cells_field(&cells)]),
+        Err(refusal) => out.record(letter, &[bytes, byte(refusal)]),
     }
 }
 
@@ -158,8 +166,8 @@ fn list_written(out: &mut Records, dice: &mut Dice, count: usize) {
     out.record('P', &[list(points.to_string().as_bytes()), list(&codes)]);
 }
 
-/// `p`: a text read as a list of points, every third one as it was written.
-fn list_read(out: &mut Records, dice: &mut Dice) {
+/// A text read as a list of points, every third one as it was written.
+fn list_read(out: &mut Records, ours: &mut Records, dice: &mut Dice) {
     let count = 1 + dice.below(12);
     let names = some_points(dice, count);
     let names: Vec<String> = names
@@ -171,9 +179,21 @@ fn list_read(out: &mut Records, dice: &mut Dice) {
         0 => good,
         _ => texts::mutated(dice, &good),
     };
+    if left_out::list(text.as_bytes()) {
+        let codes = naive_text::points(text.as_bytes());
+        let codes = codes.map(|codes| codes.into_iter().map(|code| code as u8).collect());
+        return list_by(ours, 'L', &text, codes);
+    }
+    let codes = text.parse::<Points>().map(Vec::from);
+    list_by(out, 'p', &text, codes.map_err(original::refusal_number));
+}
+
+/// `p`: a text read as a list of points, by the original; `L`: by the naive
+/// reading.
+fn list_by(out: &mut Records, letter: char, text: &str, answer: Result<Vec<u8>, u8>) {
     let bytes = list(text.as_bytes());
-    match text.parse::<Points>() {
-        Ok(points) => out.record('p', &[bytes, byte(0), list(&Vec::<u8>::from(points))]),
-        Err(error) => out.record('p', &[bytes, byte(original::refusal_number(error))]),
+    match answer {
+        Ok(codes) => out.record(letter, &[bytes, byte(0), list(&codes)]),
+        Err(refusal) => out.record(letter, &[bytes, byte(refusal)]),
     }
 }

@@ -21,6 +21,7 @@ fn main() -> ExitCode {
     let seconds = start.elapsed().as_secs_f64();
     print!("{}", report::counts(&tally));
     print!("{}", report::games(&tally));
+    print!("{}", report::left_out(&tally));
     for difference in tally.smallest() {
         let smallest = shrink::shrunk(&ask, difference.clone());
         print!("{}", report::difference(&smallest));

@@ -1,10 +1,11 @@
-//! What a call must answer: refusals by section 2 of document 01, values by the original.
+//! What a call must answer: refusals by section 2 of document 01, values by the original; texts
+//! that are left out of the comparison with it by the naive reading.
 
 use super::call::{Call, Given, Question};
 use super::games;
 use oracle::board::board::Board;
-use oracle::naive;
 use oracle::original::{self, Cells, KINDS, player, point, to_cells, to_line};
+use oracle::{left_out, naive};
 
 /// The low half of the word and the bytes written, or the refusal. Whether the bytes have room,
 /// refusal 13, is for the caller to see: it comes after all the others.
@@ -122,10 +123,7 @@ fn is_occupied(call: &Call, given: &Given) -> bool {
 /// The answer of a call that is not refused before it is asked.
 fn value(call: &Call, given: &Given) -> Expected {
     match (*call, &given.sound) {
-        (Call::Read, _) => {
-            let text = std::str::from_utf8(&given.bytes).expect("bytes below 128 are text");
-            original::read(text).map(|cells| (225, cells.to_vec()))
-        }
+        (Call::Read, _) => left_out::read(&given.bytes).map(|cells| (225, cells.to_vec())),
         (Call::TurnPoint { code, view }, _) => {
             let turned = naive::turned_point(usize::from(view), usize::from(code));
             Ok((turned as u16, Vec::new()))
@@ -134,6 +132,11 @@ fn value(call: &Call, given: &Given) -> Expected {
         (_, Some((cells, board))) => Ok(of_board(call, cells, board)),
         (_, None) => Ok((of_line(call), Vec::new())),
     }
+}
+
+/// Whether a call is not held to the original: it reads a text that request 5 answers otherwise.
+pub fn is_left_out(call: &Call, given: &Given) -> bool {
+    *call == Call::Read && refusal(call, given).is_none() && left_out::text(&given.bytes)
 }
 
 /// The original's answer about a board; the views are the document's alone.

@@ -1,7 +1,7 @@
 //! One comparison: the call made, and its word and every byte held to what they must be.
 
 use super::call::{Call, GUARD, Given, Host, Lends, Lent};
-use super::expected::{Expected, expected};
+use super::expected::{Expected, expected, is_left_out};
 use super::tally::Tally;
 use oracle::boards::Dice;
 use std::hint::black_box;
@@ -115,6 +115,7 @@ impl<'a> Judge<'a> {
     /// One comparison, counted; where the second referee can be asked the same, two.
     pub fn compare(&mut self, call: Call, given: &Given, room: Room) {
         let answer = expected(&call, given);
+        self.tally.left_out += u64::from(is_left_out(&call, given));
         self.hold(call, given, room, &answer);
         if let (Call::Game, Ok((_, report))) = (call, &answer) {
             self.tally.games.count(report, given.bytes.len());

@@ -71,6 +71,15 @@ pub fn games(tally: &Tally) -> String {
     )
 }
 
+/// What was not held to the original.
+pub fn left_out(tally: &Tally) -> String {
+    format!(
+        "{} of the texts read left out of the comparison with the original, by request 5, and held \
+         to the naive reading\n",
+        tally.left_out
+    )
+}
+
 pub fn total(tally: &Tally) -> String {
     format!(
         "{} comparisons, {} differences\n",

@@ -18,6 +18,8 @@ pub struct Count {
 pub struct Tally {
     pub counts: [Count; NAMES.len()],
     pub games: Games,
+    /// How many of the comparisons were not with the original: texts that request 5 speaks of.
+    pub left_out: u64,
 }
 
 /// What the games that were not refused came to, by the original.
@@ -112,5 +114,6 @@ impl Tally {
         for (count, more) in self.counts.iter_mut().zip(other.counts) {
             count.add(more);
         }
+        self.left_out += other.left_out;
     }
 }
