@@ -119,8 +119,9 @@ static inline unsigned renju_refusal(uint32_t word) { return (unsigned)(word >> 
 /* The answer in a word that has no refusal. */
 static inline unsigned renju_answer(uint32_t word) { return (unsigned)(word & 0xffff); }
 
-/* The board that a text says, written to `cells`: 225. Refusals 1, 2, of 3 to 7 the first that the
- * reading meets, 13. */
+/* The board that a text says, written to `cells`: 225. A point is one letter A to O and one or two
+ * digits, 1 to 15, nothing behind; a second slash is refused 3. Refusals 1, 2, of 3 to 7 the first
+ * that the reading meets, 13. */
 uint32_t renju_read(const uint8_t *text, size_t text_len, uint8_t *cells, size_t cells_len);
 
 /* The plain diagram, which reads back: 464. No 0 byte is put behind it. Refusals 9, 13. */

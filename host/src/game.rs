@@ -279,7 +279,7 @@ pub struct Report {
     pub cells: Cells,
 }
 
-/// The faulty move, with the kind where it is forbidden: `move 7 (H8): forbidden, DoubleThree`; or
+/// The faulty move, with the kind where it is forbidden: `move 9 (H8): forbidden, DoubleThree`; or
 /// `no fault, Black has won`, `no fault, nobody has won`.
 impl fmt::Display for Report {
     fn fmt(&self, f: &mut fmt::Formatter<'_>) -> fmt::Result {
@@ -288,7 +288,7 @@ impl fmt::Display for Report {
                 write!(f, "{fault}, {}", self.cells.forbidden_strict(fault.point))
             }
             (Some(fault), _) => write!(f, "{fault}"),
-            (None, Some(colour)) => write!(f, "no fault, {colour:?} has won"),
+            (None, Some(colour)) => write!(f, "no fault, {colour} has won"),
             (None, None) => f.write_str("no fault, nobody has won"),
         }
     }

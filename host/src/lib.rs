@@ -56,15 +56,15 @@
 //!
 //! # Stored games
 //!
-//! A [`Record`] is a game's moves with the view that it is shown in, in the tagged form; games of
-//! the old form, a point's code for each move, become records and come back.
+//! A [`Record`] is a [`Game`] with the view that it is shown in, in the tagged form; games of the
+//! old form, a point's code for each move, become records and come back.
 //!
 //! # Refusals
 //!
 //! What can be refused is a `Result` with a [`Refusal`], which has the number that the Rattle and
 //! the C functions give too. Numbers and bytes from outside are tested where they become a
-//! [`Point`], a [`Colour`], a [`Kind`], a [`View`], a [`Line`], a [`Record`] or [`Cells`]; after
-//! that there is little left to refuse.
+//! [`Point`], a [`Colour`], a [`Kind`], a [`View`], a [`Line`], a [`Game`], a [`Record`] or
+//! [`Cells`]; after that there is little left to refuse.
 //!
 //! "Document 01" in this crate is the project's paper on the rules and the refusals; its sentences
 //! stand beside the definitions in `crates/rules/specs`.
@@ -181,11 +181,10 @@ pub const REPORT: usize = 228;
 /// How many bytes a stored game in tagged form can have: 7, and 225 moves.
 ///
 /// ```
-/// use renju::{Point, Record, View};
+/// use renju::{Game, Record, View};
 ///
-/// let moves: Vec<Point> = Point::all().collect();
-/// let record = Record::new(View::Same, &moves)?;
-/// assert_eq!(record.to_bytes().len(), renju::RECORD);
+/// let game = Game::from_codes(&[0; renju::MOVES])?;
+/// assert_eq!(Record::new(View::Same, game).to_bytes().len(), renju::RECORD);
 /// # Ok::<(), renju::Refusal>(())
 /// ```
 pub const RECORD: usize = 232;

@@ -11,11 +11,14 @@ use std::fmt;
 /// ```
 /// use renju::{Cells, Refusal};
 ///
-/// // The number of a point's row is 1 to 15.
+/// // A point's row is a number 1 to 15 of one or two digits.
 /// let refused = "H8,H16".parse::<Cells>().unwrap_err();
 /// assert_eq!(refused, Refusal::YPart);
 /// assert_eq!(refused.number(), 4);
-/// assert_eq!(refused.to_string(), "refused 4: failed to parse the y part of a point");
+/// assert_eq!(
+///     refused.to_string(),
+///     "refused 4: behind a point's letter there is not just a number 1 to 15 of one or two digits"
+/// );
 /// ```
 #[derive(Clone, Copy, Debug, PartialEq, Eq, PartialOrd, Ord, Hash)]
 #[repr(u8)]
@@ -24,9 +27,11 @@ pub enum Refusal {
     TextLength = 1,
     /// 2: a text byte of 128 or more.
     TextByte = 2,
-    /// 3: "Failed to parse x part."; a second slash in a text of stones.
+    /// 3: "Failed to parse x part.": a point's letter is not A to O; or a
+    /// second slash in a text of stones.
     XPart = 3,
-    /// 4: "Failed to parse y part."
+    /// 4: "Failed to parse y part.": behind a point's letter there is not just
+    /// a number 1 to 15 of one or two digits.
     YPart = 4,
     /// 5: "Wrong length.": a diagram line of over 15 cells.
     LineLength = 5,
@@ -135,8 +140,10 @@ impl Refusal {
                 "the text is too long: a board's may have 4,096 bytes, a point's 2,047"
             }
             Self::TextByte => "the text has a byte of 128 or more",
-            Self::XPart => "failed to parse the x part of a point, or a second slash",
-            Self::YPart => "failed to parse the y part of a point",
+            Self::XPart => "a point's letter is not A to O, or there is a second slash",
+            Self::YPart => {
+                "behind a point's letter there is not just a number 1 to 15 of one or two digits"
+            }
             Self::LineLength => "wrong length: a diagram line has over 15 cells",
             Self::LineCount => "wrong number of lines",
             Self::LineSize => "wrong line size",

@@ -51,8 +51,8 @@ fn ask_the_second(cells: &Cells, point: Point) {
     black_box(second::forbidden_points(cells));
 }
 
-fn store(moves: &[Point]) {
-    let bytes = Record::new(View::HalfTurn, moves).unwrap().to_bytes();
+fn store(game: Game) {
+    let bytes = Record::new(View::HalfTurn, game).to_bytes();
     let record = Record::try_from(bytes.as_slice()).unwrap();
     black_box(record.to_codes()).unwrap_err();
 }
@@ -80,7 +80,7 @@ fn ask_everything(bytes: &[u8], text: &[u8], point: Point) {
     let game = Game::new(&[point, point]).unwrap();
     write!(Nowhere, "{}", game.report()).unwrap();
     ask_the_second(&cells, point);
-    store(&cells.empty_points());
+    store(game);
     write!(Nowhere, "{cells}").unwrap();
 }
 

@@ -1,25 +1,24 @@
 //! Stored games: records made, written, read and refused.
 
 use renju::raw::{renju_from_tagged, renju_tagged_view, renju_to_tagged};
-use renju::{CELLS, Point, RECORD, Record, Refusal, View};
+use renju::{CELLS, Game, MOVES, RECORD, Record, Refusal, View};
 
 /// A game of every length, as codes; every fifteenth point is met again.
 fn games() -> impl Iterator<Item = Vec<u8>> {
     let code = |length: usize, number: usize| ((number * 16 + length) % CELLS) as u8;
-    (0..=CELLS).map(move |length| (0..length).map(|number| code(length, number)).collect())
+    (0..=MOVES).map(move |length| (0..length).map(|number| code(length, number)).collect())
 }
 
-fn points(codes: &[u8]) -> Vec<Point> {
-    let point = |&code| Point::from_code(code).expect("a code below 225");
-    codes.iter().map(point).collect()
+fn game(codes: &[u8]) -> Game {
+    Game::from_codes(codes).expect("at most 225 codes below 225")
 }
 
 #[test]
 fn every_length_in_every_view() {
     for codes in games() {
         for view in View::ALL {
-            let record = Record::new(view, &points(&codes)).unwrap();
-            assert_eq!((record.view(), record.moves()), (view, &points(&codes)[..]));
+            let record = Record::new(view, game(&codes));
+            assert_eq!((record.view(), *record.game()), (view, game(&codes)));
             let bytes = record.to_bytes();
             let length = (codes.len() as u16).to_be_bytes();
             let front = [1, 0, 1, view.number(), 2, length[0], length[1]];
@@ -32,31 +31,20 @@ fn every_length_in_every_view() {
 #[test]
 fn old_to_new_to_old() {
     for codes in games() {
-        let record = Record::from_codes(&codes).unwrap();
-        assert_eq!(record, Record::new(View::Same, &points(&codes)).unwrap());
+        let record = Record::new(View::Same, game(&codes));
         assert_eq!(record.to_codes().unwrap()[..], codes);
         // .. and the other way round, from the bytes.
         let again = Record::try_from(&record.to_bytes()[..]).unwrap();
         let codes = again.to_codes().unwrap();
         assert_eq!(
-            Record::from_codes(&codes).unwrap().to_bytes(),
+            Record::new(View::Same, game(&codes)).to_bytes(),
             record.to_bytes()
         );
     }
     for view in View::ALL.into_iter().skip(1) {
-        let record = Record::new(view, &[]).unwrap();
+        let record = Record::new(view, game(&[]));
         assert_eq!(record.to_codes(), Err(Refusal::TurnedView));
     }
-}
-
-#[test]
-fn refused_games() {
-    assert_eq!(Record::from_codes(&[112; 226]), Err(Refusal::ManyMoves));
-    // 14 comes before 8.
-    assert_eq!(Record::from_codes(&[225; 226]), Err(Refusal::ManyMoves));
-    assert_eq!(Record::from_codes(&[0, 225]), Err(Refusal::Point));
-    let many = [Point::from_code(0).unwrap(); 226];
-    assert_eq!(Record::new(View::Same, &many), Err(Refusal::ManyMoves));
 }
 
 /// A record of moves whose length agrees, whatever they are.
@@ -87,6 +75,28 @@ fn malformed_records() {
     // The low byte of the length first.
     refused(&[1, 1, 0, 0, 2, 0, 1, 112]);
     refused(&[1, 0, 1, 0, 2, 1, 0, 112]);
+}
+
+/// Of records in each view, with each byte made each other byte: those that are not refused are
+/// written as they were read.
+#[test]
+fn damaged_records_that_read() {
+    let mut read = 0;
+    for view in View::ALL {
+        let good = record(view.number(), &[112, 128, 0]);
+        for place in 0..good.len() {
+            for byte in (0..=255).filter(|&byte| byte != good[place]) {
+                let mut bytes = good.clone();
+                bytes[place] = byte;
+                if let Ok(record) = Record::try_from(&bytes[..]) {
+                    assert_eq!(record.to_bytes()[..], bytes);
+                    read += 1;
+                }
+            }
+        }
+    }
+    // Seven other views, and 224 other codes for each of three moves.
+    assert_eq!(read, 8 * (7 + 3 * 224));
 }
 
 /// 15, 14, 8, on the way back 16, then 13; no lent byte is changed.

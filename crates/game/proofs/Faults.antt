@@ -104,7 +104,8 @@ stopped-from n r won cells (p ∷ moves) (suc i) e =
 
     go : (isFault (reasonOf r won cells p) ≡ true) ⊎ (isFault (reasonOf r won cells p) ≡ false)
         → (rest moves .number ≡ suc (suc n) + i → Stopped (opponentOf r) i (getD moves i 0) (rest moves) (rest (take i moves)))
-        → Stopped r (suc i) (getD moves i 0) (reportFrom (suc n) r won cells (p ∷ moves)) (reportFrom (suc n) r won cells (p ∷ take i moves))
+        → Stopped r (suc i) (getD moves i 0) (reportFrom (suc n) r won cells (p ∷ moves))
+        (reportFrom (suc n) r won cells (p ∷ take i moves))
     go (inl t) ih =
         let q : suc n ≡ suc n + suc i = ap (λ (x : Report). x .number) (sym (from-fault (suc n) r won cells p moves t)) ∙ e in
         absurd (omega arith)

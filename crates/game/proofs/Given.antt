@@ -63,6 +63,7 @@ answer-refused refused report = go (decide (eqb refused 0))
   where
     go : (eqb refused 0 ≡ true) ⊎ (eqb refused 0 ≡ false)
         → (cond {A = GameReport} (eqb refused 0)
-        (reportWith (report .number) (report .reason) (report .winner) (boardOf (report .cells))) (refusedReport refused)) .refused ≡ refused
+        (reportWith (report .number) (report .reason) (report .winner) (boardOf (report .cells))) (refusedReport refused)) .refused
+        ≡ refused
     go (inl t) = rw t (sym (eqb-true refused 0 t))
     go (inr t) = rw t

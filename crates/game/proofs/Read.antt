@@ -1,13 +1,12 @@
 -- One move by the tests that the code makes, and the loop that reads a game: a turn of it, and its ends. Assumes nothing.
 use mathlib.Core.Path.{_≡_, refl, sym, ap, _∙_}
 use mathlib.Core.Bool.{Bool, true, false, not, _&&_, cond}
-use mathlib.Core.List.{List, [], _∷_}
-use Prim.Native.Nat.{ℕ, zero, suc, _+_, _≤_, _<_}
-use native.Mathlib.Nat.{not-suc-le-zero, le-of-suc-le-suc}
+use mathlib.Core.List.{List, _∷_}
+use Prim.Native.Nat.{ℕ, suc, _+_, _≤_, _<_}
 use native.Mathlib.Numerals.{add-one}
 use native.Mathlib.Omega.{arith}
 use lib.Dec.{eqb, ltb}
-use lib.ListN.{length, getD, drop}
+use lib.ListN.{length, getD, drop, drop-of-length-le}
 use lib.Seq.{drop-cons}
 use borrow.Author.Tests.{eqb-true, lt-ltb}
 use Rattle.rules.specs.Numbers.{colourNo, isBlack, isWhite, isNone, opponentOf}
@@ -137,13 +136,7 @@ module _ (n : ℕ) (r : Player) (won : Winner) (cells : List ℕ) where
 
     pub read-end : length moves ≤ i → reportFrom n r won cells (drop i moves) ≡ noFault won cells
     unfolding reportFrom
-    read-end h = ap (reportFrom n r won cells) (drop-out moves i h)
-      where
-        drop-out : (x : List ℕ) (i : ℕ) → length x ≤ i → drop i x ≡ []
-        drop-out [] zero h = refl
-        drop-out [] (suc i) h = refl
-        drop-out (a ∷ x) zero h = absurd (not-suc-le-zero h)
-        drop-out (a ∷ x) (suc i) h = drop-out x i (le-of-suc-le-suc h)
+    read-end h = ap (reportFrom n r won cells) (drop-of-length-le moves h)
 
 -- ---- the stone of a move without a fault, added to sound lines
 

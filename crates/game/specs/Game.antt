@@ -64,12 +64,14 @@ lowest occupied forbidden after = cond occupied reason.Occupied (cond forbidden 
 unfoldable pub reasonOf : Player → Winner → List ℕ → ℕ → Reason
 reasonOf r won cells p = lowest (isOccupied cells p) (isForbidden r cells p) (isWon won)
 
--- who has won after a move without a fault: its player, where the stone made a five. "Black's five is exactly five, White's five or more."
+-- who has won after a move without a fault (nobody had won before it, else the move would be faulty): its player, where the stone made a
+-- five. "Black's five is exactly five, White's five or more."
 unfoldable pub wonAfter : Bool → Player → Winner
 wonAfter five r = cond five (wonBy r) winner.None
 
 -- ---- the reading
 
+-- the first faulty move's number, from 1, or 0; its reason; the winner; the board
 pub record Report : Type 0 where
   pub number : ℕ
   pub reason : Reason

@@ -3,7 +3,7 @@ use super::report::GameReport;
 use super::report::Reason;
 use super::report::Winner;
 use super::turn::put_unless;
-use super::turn::said_of;
+use super::turn::said_on;
 use cells::moves_refusal;
 use point::addresses;
 use rules::Player;
@@ -13,8 +13,8 @@ ghost use Rattle.cells.specs.Cells.{movesRefusal};
 ghost use Rattle.game.specs.Game.{reportOf};
 ghost use Rattle.game.specs.Answers.{gameReport};
 
-// The report of a game: its first faulty move, or its winner, and the board; 14 for more than 225 moves, then 8 for a code over 224 anywhere
-// among them, before anything is read.
+// The report of a game: its first faulty move, or its winner, and the board; 14 for more than 225 moves, then 8 for a code over 224
+// anywhere among them, before anything is read.
 pub fn referee_game(moves: &[u8]) -> GameReport
     ensures { λ r. ⌜ r ≡ gameReport (movesRefusal (now (moves .entry))) (reportOf (now (moves .entry))) ⌝ }
 {
@@ -37,7 +37,7 @@ fn read_game(moves: &[u8], table: &[u16; 900]) -> GameReport
     let mut i = 0;
     while i < moves.len() {
         let code = moves[i];
-        let said = said_of(&lines, table, code, player, won);
+        let said = said_on(&lines, table, code, player, won);
         let reason = said.reason;
         let fault = reason.is_fault();
         put_unless(fault, &mut lines, table, code, player);

@@ -32,7 +32,7 @@ pub(crate) struct Said {
 }
 
 // "on an occupied point, forbidden to Black, or played after a five". A Four through the empty point is a Five once the stone is put.
-pub(crate) fn said_of(
+pub(crate) fn said_on(
     lines: &[u16; 144],
     table: &[u16; 900],
     code: u8,

@@ -19,7 +19,7 @@ use Rattle.point.specs.declared.place.Place.{Place}
 use Rattle.point.specs.Places.{hasPlace, placeOf, placeBy, addresses}
 use Rattle.point.proofs.Stored.{place-stored, place-has, place-key, place-cell, place-key-lt, place-by, by-key-lt}
 use Rattle.grid.specs.Lines.{entryNo, maskOn, maskThrough, masksThrough, maskBy, masksBy, shows, writeLine, writeIn}
-use Rattle.grid.specs.Lines.{markLine, markIn, markOn, markPlace, markBy, startsIn}
+use Rattle.grid.specs.Lines.{markLine, markIn, markOn, markPlace, markBy, startsIn, startsAt}
 use Rattle.rules.proofs.Logic.{decide}
 use Rattle.grid.proofs.Lines.{mask-entry}
 
@@ -107,12 +107,21 @@ module _ (r : Place) (d p : ℕ) (e : r ≡ placeOf d p) where
   unfolding writeIn
   nowhere-write l v s = rw (sym (place-stored d p e) ∙ s)
 
-  pub place-starts : (l : List ℕ) (who : Player) (kind : RowKind) → r .stored ≡ true
+  place-starts : (l : List ℕ) (who : Player) (kind : RowKind) → r .stored ≡ true
       → maskOf 16 (λ j. rowAt (isBlack who) (keySize (r .key)) (shows who l (r .key)) (shows (opponentOf who) l (r .key)) kind j
       && through kind (r .cell) j) ≡ startsIn l p who kind d
   unfolding startsIn
   place-starts l who kind s = rw (place-key d p e s, place-cell d p e s, place-has d p e s)
 
-  pub nowhere-starts : (l : List ℕ) (who : Player) (kind : RowKind) → r .stored ≡ false → 0 ≡ startsIn l p who kind d
+  nowhere-starts : (l : List ℕ) (who : Player) (kind : RowKind) → r .stored ≡ false → 0 ≡ startsIn l p who kind d
   unfolding startsIn
   nowhere-starts l who kind s = rw (sym (place-stored d p e) ∙ s)
+
+  -- the starts on the line of an address are those on the line through the point
+  pub starts-at : (l : List ℕ) (who : Player) (kind : RowKind) → startsAt l r who kind ≡ startsIn l p who kind d
+  unfolding startsAt
+  starts-at l who kind =
+      elim (decide (r .stored)) [
+        | inl s ↦ rw s (place-starts l who kind s)
+        | inr s ↦ rw s (nowhere-starts l who kind s)
+      ]

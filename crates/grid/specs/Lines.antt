@@ -147,5 +147,12 @@ startsIn l p r k d =
     rowAt (isBlack r) (keySize (keyAt d p)) (shows r l (keyAt d p)) (shows (opponentOf r) l (keyAt d p)) k j && through k (cellNo d p) j))
     0
 
+-- .. on the line of a place, which an address gives (proofs/Placed.antt, starts-at)
+unfoldable pub startsAt : List ℕ → Place → Player → RowKind → ℕ
+startsAt l a r k =
+    cond (a .stored)
+    (maskOf 16 (λ j. rowAt (isBlack r) (keySize (a .key)) (shows r l (a .key)) (shows (opponentOf r) l (a .key)) k j && through k (a .cell) j))
+    0
+
 unfoldable pub startsOn : List ℕ → ℕ → Player → RowKind → List ℕ
 startsOn l p r k = tab 4 (startsIn l p r k)

@@ -11,7 +11,7 @@ pub use shown::is_sound_on;
 pub use shown::lines_of;
 pub use shown::lines_refusal;
 pub use starts::row_starts_on;
-pub use starts::starts_along;
+pub use starts::starts_at;
 pub use store::add_on;
 pub use store::lift_on;
 pub use store::mask_on;

@@ -1,31 +1,33 @@
 // The rows through a point, as four masks of their starts that travel together, one for each direction.
 use super::store::mask_on;
 use masks;
-use point::address;
+use point::Place;
+use point::address_by;
+use point::addresses;
 use point::key_size;
 use rules::Player;
 use rules::RowKind;
 ghost use mathlib.Core.Path.{_≡_};
-ghost use Rattle.grid.specs.Lines.{startsIn, startsOn};
+ghost use Rattle.grid.specs.Lines.{startsAt, startsOn};
 
 // Where the player's rows of the kind through a point start: vertical, horizontal, ascending, descending; 0 where no line is stored,
 // as for every code over 224.
 pub fn row_starts_on(lines: &[u16; 144], code: u8, player: Player, kind: RowKind) -> [u16; 4]
     ensures { λ r. ⌜ r ≡ startsOn (now (lines .entry)) code player kind ⌝ }
 {
+    let table = addresses();
     [
-        starts_along(lines, 0, code, player, kind),
-        starts_along(lines, 1, code, player, kind),
-        starts_along(lines, 2, code, player, kind),
-        starts_along(lines, 3, code, player, kind),
+        starts_at(lines, address_by(&table, 0, code), player, kind),
+        starts_at(lines, address_by(&table, 1, code), player, kind),
+        starts_at(lines, address_by(&table, 2, code), player, kind),
+        starts_at(lines, address_by(&table, 3, code), player, kind),
     ]
 }
 
-// .. on the line in one direction; one over 3 is taken for Descending.
-pub fn starts_along(lines: &[u16; 144], d: u8, code: u8, player: Player, kind: RowKind) -> u16
-    ensures { λ r. ⌜ r ≡ startsIn (now (lines .entry)) code player kind d ⌝ }
+// .. on the line of an address; 0 where that is nowhere.
+pub fn starts_at(lines: &[u16; 144], a: Place, player: Player, kind: RowKind) -> u16
+    ensures { λ r. ⌜ r ≡ startsAt (now (lines .entry)) a player kind ⌝ }
 {
-    let a = address(d, code);
     if a.stored {
         return masks::row_starts_on(
             mask_on(lines, a.key, player),

@@ -62,7 +62,8 @@ standing-some (suc n) moves h = let q : suc n - 1 ≡ n = omega arith in ap (λ 
 -- ---- the bytes of an answer
 
 module _ (moves out : List ℕ) (answer : GameReport) (e : answer ≡ gameReport (movesRefusal moves) (reportOf moves))
-    (played : CellsAnswer) (p : played ≡ cellsAnswer (codesRefusal (standing (answer .number) moves)) (movesCells (standing (answer .number) moves)))
+    (played : CellsAnswer)
+    (p : played ≡ cellsAnswer (codesRefusal (standing (answer .number) moves)) (movesCells (standing (answer .number) moves)))
   where
     bytesIn : List ℕ
     bytesIn = reportBytes (answer .number) (answer .reason) (answer .winner) (played .cells)

@@ -28,8 +28,8 @@ pub extern "C" fn renju_game(moves: &[u8], out: &mut [u8]) -> u32
     word(refused, report.number as u16)
 }
 
-// The moves whose stones are on the report's board: those before the faulty one, or all. Their cells are put one by one; to read the board's
-// lines would be to look at all 225.
+// The moves whose stones are on the report's board: those before the faulty one, or all. Their cells are put one by one; to read the
+// board's lines would be to look at all 225.
 fn before_fault(moves: &[u8], number: u8) -> &[u8]
     ensures { λ r. ⌜ now r ≡ standing number (now (moves .entry)) ⌝ }
 {

@@ -1,10 +1,11 @@
 // Points collected as codes: the eyes of fours through a point, and the points of a mask of cells.
 use grid::mask_on;
-use grid::starts_along;
+use grid::starts_at;
 use lent::keep;
 use masks;
 use masks::bit_at;
-use point::address;
+use point::address_by;
+use point::addresses;
 use point::key_direction;
 use point::key_no;
 use point::key_size;
@@ -23,6 +24,7 @@ ghost use Rattle.rules.specs.Bit.{bit, maskOf};
 ghost use Rattle.rules.specs.Point.{lineCount, lineSize, pointAt, keySize};
 ghost use Rattle.rules.specs.Grid.{fourEye, fourEyes, eyesIn};
 ghost use Rattle.lent.specs.Lists.{Wrote, Held};
+ghost use Rattle.point.specs.Places.{addresses};
 ghost use Rattle.grid.specs.Lines.{cellsOf, Sound};
 ghost use Rattle.lists.specs.Lists.{cellList};
 ghost use Rattle.lists.specs.Lists.{maskItem, maskPoints, maskCell};
@@ -38,37 +40,46 @@ pub(crate) fn four_eyes(lines: &[u16; 144], code: u8, player: Player) -> Codes
     requires { ⌜ Sound (now lines) × (code < 225) ⌝ }
     ensures { λ r. ⌜ Held 225 (fourEyes player (cellsOf (now (lines .entry))) code) (r .bytes) (r .len) ⌝ }
 {
+    let table = addresses();
     let mut bytes = [0u8; 225];
     let mut n = 0usize;
     let mut d = 0u8;
     while d < 4 {
-        n = keep_eyes(lines, d, code, player, &mut bytes, n);
+        n = keep_eyes(lines, &table, d, code, player, &mut bytes, n);
         d += 1;
     }
     Codes { bytes, len: n }
 }
 
 // Those on the line in one direction, kept from place n on; the next place.
-fn keep_eyes(lines: &[u16; 144], d: u8, code: u8, player: Player, buf: &mut [u8], n: usize) -> usize
-    requires { ⌜ Sound (now lines) × (code < 225) × (d < 4) × (n + 15 ≤ length (now buf)) ⌝ }
+fn keep_eyes(
+    lines: &[u16; 144],
+    table: &[u16; 900],
+    d: u8,
+    code: u8,
+    player: Player,
+    buf: &mut [u8],
+    n: usize,
+) -> usize
+    requires { ⌜ Sound (now lines) × (code < 225) × (d < 4) × (n + 15 ≤ length (now buf)) × (now table ≡ addresses) ⌝ }
     ensures { λ r. ⌜ Wrote (now (buf .entry)) n (eyesIn player (cellsOf (now (lines .entry))) code d) (now (buf .exit)) r ⌝ }
 {
-    let eyes = eyes_along(lines, d, code, player);
+    let eyes = eyes_along(lines, table, d, code, player);
     keep_cells(d, line_no(d, code), eyes, buf, n)
 }
 
 // The cells of that line where the player makes a five of a four through the point.
-fn eyes_along(lines: &[u16; 144], d: u8, code: u8, player: Player) -> u16
-    requires { ⌜ Sound (now lines) × (code < 225) × (d < 4) ⌝ }
+fn eyes_along(lines: &[u16; 144], table: &[u16; 900], d: u8, code: u8, player: Player) -> u16
+    requires { ⌜ Sound (now lines) × (code < 225) × (d < 4) × (now table ≡ addresses) ⌝ }
     ensures { λ r. ⌜ r ≡ maskOf 16 (fourEye player (cellsOf (now (lines .entry))) code d) ⌝ }
 {
-    let a = address(d, code);
+    let a = address_by(table, d, code);
     if a.stored {
         return masks::eyes_of(
             mask_on(lines, a.key, player),
             mask_on(lines, a.key, player.opponent()),
             key_size(a.key),
-            starts_along(lines, d, code, player, RowKind::Four),
+            starts_at(lines, a, player, RowKind::Four),
             RowKind::Four.eye_cells(),
         );
     }

@@ -1,10 +1,11 @@
 // Rows collected line by line, four bytes each: key, start, stones mask, eyes mask.
 use grid::mask_on;
-use grid::starts_along;
+use grid::starts_at;
 use lent::keep;
 use masks;
 use masks::bit_at;
-use point::address;
+use point::address_by;
+use point::addresses;
 use point::key_size;
 use rules::Player;
 use rules::RowKind;
@@ -15,6 +16,7 @@ ghost use Rattle.rules.specs.Bit.{bit};
 ghost use Rattle.rules.specs.Line.{stonesMask};
 ghost use Rattle.rules.specs.Grid.{rowsOf, rowsOnPoint, keyRows, rowsIn};
 ghost use Rattle.lent.specs.Lists.{Wrote, Held};
+ghost use Rattle.point.specs.Places.{addresses};
 ghost use Rattle.grid.specs.Lines.{cellsOf, Sound};
 ghost use Rattle.lists.specs.Lists.{rowList};
 
@@ -68,11 +70,12 @@ pub(crate) fn rows_through(lines: &[u16; 144], code: u8, player: Player, kind: R
     requires { ⌜ Sound (now lines) × (code < 225) ⌝ }
     ensures { λ r. ⌜ Held 240 (rowsOnPoint player kind (cellsOf (now (lines .entry))) code) (r .bytes) (r .len) ⌝ }
 {
+    let table = addresses();
     let mut bytes = [0u8; 240];
     let mut n = 0usize;
     let mut d = 0u8;
     while d < 4 {
-        n = keep_rows_along(lines, d, code, player, kind, &mut bytes, n);
+        n = keep_rows_along(lines, &table, d, code, player, kind, &mut bytes, n);
         d += 1;
     }
     RowsOn { bytes, len: n }
@@ -81,6 +84,7 @@ pub(crate) fn rows_through(lines: &[u16; 144], code: u8, player: Player, kind: R
 // Those on the line in one direction, kept from place n on; the next place.
 fn keep_rows_along(
     lines: &[u16; 144],
+    table: &[u16; 900],
     d: u8,
     code: u8,
     player: Player,
@@ -88,14 +92,14 @@ fn keep_rows_along(
     buf: &mut [u8],
     n: usize,
 ) -> usize
-    requires { ⌜ Sound (now lines) × (code < 225) × (d < 4) × (n + 60 ≤ length (now buf)) ⌝ }
+    requires { ⌜ Sound (now lines) × (code < 225) × (d < 4) × (n + 60 ≤ length (now buf)) × (now table ≡ addresses) ⌝ }
     ensures { λ r. ⌜ Wrote (now (buf .entry)) n (rowsIn player kind (cellsOf (now (lines .entry))) code d) (now (buf .exit)) r ⌝ }
 {
-    let a = address(d, code);
+    let a = address_by(table, d, code);
     if a.stored {
         let my = mask_on(lines, a.key, player);
         let op = mask_on(lines, a.key, player.opponent());
-        let starts = starts_along(lines, d, code, player, kind);
+        let starts = starts_at(lines, a, player, kind);
         return keep_rows(a.key, my, op, kind, starts, buf, n);
     }
     n

@@ -49,7 +49,8 @@ pub five-told : (r : Player) (cells : List ℕ) (p : ℕ) → length cells ≡ 2
 unfolding makesFive
 five-told r cells p long hp none e eb =
     some-masks (rowsThrough r Four cells p) (start-low r Four cells p) e eb
-    ∙ someRow-same (rowsThrough r Four cells p) (rowsThrough r Five (put r cells p) p) (λ d j hd hj. four-five r cells p d long hp hd none j)
+    ∙ someRow-same (rowsThrough r Four cells p) (rowsThrough r Five (put r cells p) p)
+    (λ d j hd hj. four-five r cells p d long hp hd none j)
 
 -- the eight views: the stone makes a five at the turned point of the turned board exactly where it does at the point
 pub five-blind : (r : Player) → Blind (makesFive r)

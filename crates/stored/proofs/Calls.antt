@@ -1,7 +1,7 @@
 -- The same of calls, by their contracts: what one call answers and leaves in its lent buffer, handed to the next, goes through unchanged, so
 -- that the next refuses nothing but too short a buffer. `f.Post κs asked r after` is what the contract of f ensures: asked this, it may
 -- answer r and leave its parameters as `after` says. Assumes nothing.
-use mathlib.Core.Path.{_≡_, ap, ap₂, _∙_}
+use mathlib.Core.Path.{_≡_, ap, ap₂, sym, _∙_}
 use mathlib.Core.Bool.{true, false}
 use mathlib.Core.Logic.{_⊎_, inl, inr}
 use mathlib.Core.List.{List}
@@ -23,8 +23,9 @@ use Rattle.rules.proofs.Logic.{decide}
 use Rattle.rules.proofs.Refusals.{first-none}
 use Rattle.lent.specs.Lists.{fits, laid, listRefusal, listOut, counted}
 use Rattle.cells.specs.Cells.{movesRefusal}
-use Rattle.stored.specs.Records.{recordOf, storedView, storedMoves, recordRefusal, backRefusal, taggedRefusal, Bytes}
-use Rattle.stored.proofs.RoundTrip.{written-read, old-new-old, new-old-new}
+use Rattle.stored.specs.Records.{recordOf, storedView, storedMoves, recordRefusal, backRefusal, taggedRefusal}
+use Rattle.stored.proofs.Records.{tagged-old}
+use Rattle.stored.proofs.RoundTrip.{AreBytes, written-read, old-new-old, new-old-new}
 use Rattle.stored.proofs.front.to_tagged.Reads as to-tagged
 use Rattle.stored.proofs.front.old_to_tagged.Reads as old-to-tagged
 use Rattle.stored.proofs.front.from_tagged.Reads as from-tagged
@@ -79,6 +80,14 @@ through out e l h = (
 
 -- ---- two calls
 
+-- what is handed over is the record of moves that are not refused: they are taken back
+taken-back : (moves bytes out : List ℕ) {r : CountAnswer} {out′ : List ℕ} → movesRefusal moves ≡ 0 → bytes ≡ recordOf 0 moves
+    → (r ≡ counted 1 (backRefusal bytes) out (storedMoves bytes)) × (out′ ≡ listOut (backRefusal bytes) out (storedMoves bytes))
+    → (r ≡ counted 1 0 out moves) × (out′ ≡ listOut 0 out moves)
+taken-back moves bytes out told is next =
+    let (free, back) = old-new-old moves told in
+    through out (ap backRefusal is ∙ free) (ap storedMoves is ∙ back) next
+
 module _ (κs κs′ : Lfts 2) (out out′ : RefT (List ℕ)) where
   -- Old to new to old gives the same bytes.
   pub old-new-old-called : (moves bytes : RefT (List ℕ)) → GoesThrough
@@ -86,19 +95,41 @@ module _ (κs κs′ : Lfts 2) (out out′ : RefT (List ℕ)) where
       (from-tagged.Post κs′ (bytes, (out′, tt))) (λ s. s .1 .0) (now out′) (now moves)
   old-new-old-called moves bytes n r s′ (s, one, handed) next =
       let (told, front) = given-back (movesRefusal (now moves)) (now out) (recordOf 0 (now moves)) one in
-      let is = handed ∙ front in
-      let (free, back) = old-new-old (now moves) told in
-      through (now out′) (ap backRefusal is ∙ free) (ap storedMoves is ∙ back) next
+      taken-back (now moves) (now bytes) (now out′) told (handed ∙ front) next
 
-  -- New to old to new gives the same bytes; a record that is taken back has view 0.
-  pub new-old-new-called : (bytes moves : RefT (List ℕ)) → Bytes (now bytes) → GoesThrough
-      (from-tagged.Post κs (bytes, (out, tt))) (λ s. s .1 .0) (now moves)
-      (old-to-tagged.Post κs′ (moves, (out′, tt))) (λ s. s .1 .0) (now out′) (now bytes)
-  new-old-new-called bytes moves bs n r s′ (s, one, handed) next =
+  -- .. and so does the general writer in view 0, which is the one that Rust and C call
+  pub old-new-old-viewed : (moves bytes : RefT (List ℕ)) → GoesThrough
+      (to-tagged.Post κs (moves, (0, (out, tt)))) (λ s. s .1 .1 .0) (now bytes)
+      (from-tagged.Post κs′ (bytes, (out′, tt))) (λ s. s .1 .0) (now out′) (now moves)
+  old-new-old-viewed moves bytes n r s′ (s, one, handed) next =
+      let (told, front) = given-back (taggedRefusal 0 (now moves)) (now out) (recordOf 0 (now moves)) one in
+      taken-back (now moves) (now bytes) (now out′) (sym (tagged-old (now moves)) ∙ told) (handed ∙ front) next
+
+  -- what a record that is taken back gives: moves that are not refused, whose record it is
+  new-old : (bytes : RefT (List ℕ)) (moves : List ℕ) → AreBytes (now bytes) → (n : ℕ)
+      → Gave (from-tagged.Post κs (bytes, (out, tt))) (λ s. s .1 .0) n moves
+      → (movesRefusal moves ≡ 0) × (recordOf 0 moves ≡ now bytes)
+  new-old bytes moves bs n (s, one, handed) =
       let (told, front) = given-back (backRefusal (now bytes)) (now out) (storedMoves (now bytes)) one in
       let is = handed ∙ front in
       let (free, back) = new-old-new (now bytes) bs told in
-      through (now out′) (ap movesRefusal is ∙ free) (ap (recordOf 0) is ∙ back) next
+      (ap movesRefusal is ∙ free, ap (recordOf 0) is ∙ back)
+
+  -- New to old to new gives the same bytes; a record that is taken back has view 0.
+  pub new-old-new-called : (bytes moves : RefT (List ℕ)) → AreBytes (now bytes) → GoesThrough
+      (from-tagged.Post κs (bytes, (out, tt))) (λ s. s .1 .0) (now moves)
+      (old-to-tagged.Post κs′ (moves, (out′, tt))) (λ s. s .1 .0) (now out′) (now bytes)
+  new-old-new-called bytes moves bs n r s′ gave next =
+      let (free, back) = new-old bytes (now moves) bs n gave in
+      through (now out′) free back next
+
+  -- .. and so does the general writer in view 0
+  pub new-old-new-viewed : (bytes moves : RefT (List ℕ)) → AreBytes (now bytes) → GoesThrough
+      (from-tagged.Post κs (bytes, (out, tt))) (λ s. s .1 .0) (now moves)
+      (to-tagged.Post κs′ (moves, (0, (out′, tt)))) (λ s. s .1 .1 .0) (now out′) (now bytes)
+  new-old-new-viewed bytes moves bs n r s′ gave next =
+      let (free, back) = new-old bytes (now moves) bs n gave in
+      through (now out′) (tagged-old (now moves) ∙ free) back next
 
 -- What the general writer writes has the view that it was handed.
 pub written-view-called : (κs : Lfts 2) (κ : Lfts 1) (moves bytes out : RefT (List ℕ)) (view n : ℕ) (r : NumberAnswer)

@@ -18,9 +18,13 @@ use Rattle.point.proofs.Refused.{view-in}
 use Rattle.cells.specs.Cells.{movesRefusal}
 use Rattle.stored.specs.Fields.{field, fieldLength, fieldValue, behindField, hasField}
 use Rattle.stored.specs.Records.{viewTag, movesTag, recordOf, storedView, storedMoves, beginsWithView, isMovesAlone, isRecord}
-use Rattle.stored.specs.Records.{recordRefusal, backRefusal, taggedRefusal, Bytes}
+use Rattle.stored.specs.Records.{recordRefusal, backRefusal, taggedRefusal}
 use Rattle.stored.proofs.Fields.{value-length, field-whole}
 use Rattle.stored.proofs.Records.{record-length, view-read, moves-read, refused-as-moves}
+
+-- bytes, as every lent slice has them
+abbrev pub AreBytes : List ℕ → Type 0
+AreBytes s = (i : ℕ) → getD s i 0 < 256
 
 -- ---- what is written is read
 
@@ -55,7 +59,7 @@ one-byte [] e = absurd (omega arith)
 one-byte (a ∷ []) e = refl
 one-byte (a ∷ b ∷ l) e = absurd (omega arith)
 
-module _ (s : List ℕ) (bytes : Bytes s) (t : T (isRecord s)) where
+module _ (s : List ℕ) (bytes : AreBytes s) (t : T (isRecord s)) where
   begins : T (beginsWithView s)
   unfolding isRecord
   begins = and-left (beginsWithView s) (isMovesAlone (behindField s)) t
@@ -93,7 +97,7 @@ module _ (s : List ℕ) (bytes : Bytes s) (t : T (isRecord s)) where
       (eqb→eq (length (behindField (behindField s))) 0
       (and-right (hasField movesTag (behindField s)) (eqb (length (behindField (behindField s))) 0) alone))
 
-  behind-bytes : Bytes (behindField s)
+  behind-bytes : AreBytes (behindField s)
   unfolding behindField
   behind-bytes i = rw (getD-drop, getD-drop) (bytes (3 + (fieldLength s + i)))
 
@@ -118,7 +122,7 @@ module _ (s : List ℕ) (bytes : Bytes s) (t : T (isRecord s)) where
       omega (arith, behind-bytes 1, behind-bytes 2)
 
 -- A record that is read is the one that its view and moves are written as; and they can be written.
-pub read-written : (s : List ℕ) → Bytes s → recordRefusal s ≡ 0
+pub read-written : (s : List ℕ) → AreBytes s → recordRefusal s ≡ 0
     → (taggedRefusal (storedView s) (storedMoves s) ≡ 0) × (recordOf (storedView s) (storedMoves s) ≡ s)
 unfolding recordRefusal taggedRefusal viewRefusal
 read-written s bytes e =
@@ -131,12 +135,12 @@ read-written s bytes e =
     )
 
 -- So no two records say the same game.
-pub one-record : (s t : List ℕ) → Bytes s → Bytes t → recordRefusal s ≡ 0 → recordRefusal t ≡ 0 → storedView s ≡ storedView t
+pub one-record : (s t : List ℕ) → AreBytes s → AreBytes t → recordRefusal s ≡ 0 → recordRefusal t ≡ 0 → storedView s ≡ storedView t
     → storedMoves s ≡ storedMoves t → s ≡ t
 one-record s t b b′ e e′ view moves = sym (read-written s b e .1) ∙ ap₂ recordOf view moves ∙ read-written t b′ e′ .1
 
 -- "and so does new to old to new where view is 0": a record that is taken back gives moves that are not refused, whose record it is.
-pub new-old-new : (s : List ℕ) → Bytes s → backRefusal s ≡ 0
+pub new-old-new : (s : List ℕ) → AreBytes s → backRefusal s ≡ 0
     → (movesRefusal (storedMoves s) ≡ 0) × (recordOf 0 (storedMoves s) ≡ s)
 unfolding backRefusal recordRefusal
 new-old-new s bytes e =
@@ -147,7 +151,7 @@ new-old-new s bytes e =
     )
 
 -- More than 7 and 65,535 bytes are no record: no two bytes say so many moves.
-pub too-long : (s : List ℕ) → Bytes s → 65542 < length s → recordRefusal s ≡ malformed
+pub too-long : (s : List ℕ) → AreBytes s → 65542 < length s → recordRefusal s ≡ malformed
 unfolding recordRefusal first unless
 too-long s bytes h = go (decide (isRecord s))
   where

@@ -2,7 +2,7 @@
 -- document 02's.
 use mathlib.Core.Bool.{Bool, _&&_}
 use mathlib.Core.List.{List, [], _∷_, _++_}
-use Prim.Native.Nat.{ℕ, _<_}
+use Prim.Native.Nat.{ℕ}
 use lib.Dec.{eqb, leb}
 use lib.ListN.{length, getD}
 use Rattle.rules.specs.Refusals.{malformed, turnedView, unless, first, viewRefusal}
@@ -56,8 +56,3 @@ backRefusal s = first (recordRefusal s) (unless (eqb (storedView s) 0) turnedVie
 -- of a view and moves that are written: 14, 8, then document 01's 12 for a view over 7
 unfoldable pub taggedRefusal : ℕ → List ℕ → ℕ
 taggedRefusal view moves = first (movesRefusal moves) (viewRefusal view)
-
--- ---- bytes, as every lent slice has them
-
-abbrev pub Bytes : List ℕ → Type 0
-Bytes s = (i : ℕ) → getD s i 0 < 256

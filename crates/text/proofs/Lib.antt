@@ -5,6 +5,8 @@ pub mod Places
 pub mod Marks
 -- a point in text, and a comma list, one item a turn
 pub mod Items
+-- which texts name a point, said plainly
+pub mod Named
 -- a diagram, one cell and one line a turn
 pub mod Lined
 -- what is given back of a text

@@ -1,5 +1,5 @@
-//! The differential run: every function of the host interface that asks of a board, a line or a
-//! text against the original.
+//! The differential run: every function of the host interface that asks of a board, a line, a
+//! text or a game against the original.
 //!
 //! One comparison is one host call held to what it must do in all that can be seen of it: the
 //! word (answer or refusal), every byte lent to it with the guard bytes before and behind them,

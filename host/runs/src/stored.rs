@@ -2,7 +2,8 @@
 //!
 //! One comparison is one call, held to the plain reading in its word and in every byte lent to it,
 //! with bytes of guard on both sides. First come all records up to some length whose bytes are from
-//! a small set, then good records that were damaged.
+//! a small set; then games, good and wrong, written and read as they are, and as many good games'
+//! records that were damaged.
 //!
 //! - `plain`: what document 02 says. `call`: a call, ours behind it, and one comparison. `tally`:
 //!   the counts, and the smallest difference. `damage`: records, and what is done to them.
@@ -23,7 +24,7 @@ pub struct Plan {
     pub bytes: Vec<u8>,
     /// How many of them a record has at most.
     pub longest: usize,
-    /// How many records are damaged.
+    /// How many records are damaged; as many games are written and read as they are.
     pub damaged: u64,
     pub seed: u64,
 }
@@ -36,14 +37,22 @@ pub fn run(host: &Host, plan: &Plan) -> Tally {
     }
     let mut dice = Dice::new(plan.seed);
     for _ in 0..plan.damaged {
+        whole(host, &mut dice, &mut tally);
         let game = damage::game(&mut dice);
-        let room = damage::room(&mut dice, game.moves.len() + 7);
-        call::compare(host, &Call::write(&game.moves, game.view), room, &mut tally);
         let record = damage::damaged(&mut dice, &game);
         let room = damage::room(&mut dice, game.moves.len());
         read(host, &record, room, &mut tally);
     }
     tally
+}
+
+/// A game written, which may be refused, and its record read, to which nothing was done.
+fn whole(host: &Host, dice: &mut Dice, tally: &mut Tally) {
+    let game = damage::wrong_game(dice);
+    let room = damage::room(dice, game.moves.len() + 7);
+    call::compare(host, &Call::write(&game.moves, game.view), room, tally);
+    let room = damage::room(dice, game.moves.len());
+    read(host, &plain::bytes_of(game.view, &game.moves), room, tally);
 }
 
 /// Every record of a length, in the order of their bytes. There is room for the moves of any.

@@ -1,9 +1,10 @@
 //! The run over stored games: that it is clean, that it meets every refusal, and that it finds what
 //! it is to find, on functions made wrong.
 
+use oracle::boards::Dice;
 use runs::stored::call::{Call, Host, ask};
 use runs::stored::tally::Tally;
-use runs::stored::{Plan, run};
+use runs::stored::{Plan, damage, plain, run};
 use std::process::Command;
 
 /// Few bytes, all that tell the refusals apart; few damaged records.
@@ -30,9 +31,9 @@ fn every_short_record_and_damaged_ones() {
     assert_eq!(met[0], [0, 8, 12, 13, 14]);
     assert_eq!(met[1], [0, 8, 13, 14, 15, 16]);
     assert_eq!(met[2], [0, 8, 14, 15]);
-    // All of up to nine of five bytes, and those that were damaged.
+    // All of up to nine of five bytes, the games as they are, and those that were damaged.
     let every: u64 = (0..=9).map(|length| 5u64.pow(length)).sum();
-    assert_eq!(tally.counts[1].comparisons, every + 20_000);
+    assert_eq!(tally.counts[1].comparisons, every + 20_000 + 20_000);
 }
 
 /// The smallest difference of the function that alone is wrong.
@@ -117,8 +118,19 @@ fn moves_past_the_last_are_found() {
     assert_eq!(smallest(&wrong, "renju_to_tagged").len(), 226);
 }
 
+/// What is called damaged is a good game's record no more.
 #[test]
-fn the_program_says_how_it_went() {
+fn damaged_is_damaged() {
+    let mut dice = Dice::new(1);
+    for _ in 0..20_000 {
+        let game = damage::game(&mut dice);
+        let good = plain::write(&game.moves, game.view).expect("a good game");
+        assert_ne!(damage::damaged(&mut dice, &game), good);
+    }
+}
+
+#[test]
+fn wrong_usage() {
     for wrong in [vec!["x"], vec!["-1"], vec!["1"; 3]] {
         let program = Command::new(env!("CARGO_BIN_EXE_stored"))
             .args(wrong)

@@ -1,6 +1,6 @@
-//! Every function of the host interface that asks of a board, a line or a text against the original:
-//! `differential [N [SEED [THREADS]]]`. N is the number of comparisons to reach at least. Exit 1 on
-//! any difference.
+//! Every function of the host interface that asks of a board, a line, a text or a game against
+//! the original: `differential [N [SEED [THREADS]]]`. N is the number of comparisons to reach at
+//! least. Exit 1 on any difference.
 
 use runs::differential::call::ask;
 use runs::differential::{Plan, report, run, shrink};

@@ -1,5 +1,6 @@
 //! Stored games against a plain reading of document 02: `stored [N [SEED]]`. Every record of up to
-//! nine bytes from a small set, then N damaged ones. Exit 1 on any difference.
+//! nine bytes from a small set, then N games as they are and N damaged records. Exit 1 on any
+//! difference.
 
 use runs::stored::call::ask;
 use runs::stored::{Plan, run};
@@ -12,8 +13,8 @@ fn main() -> ExitCode {
         return ExitCode::from(2);
     };
     println!(
-        "every record of up to {} bytes from {:?}; {} damaged ones, seed {}",
-        plan.longest, plan.bytes, plan.damaged, plan.seed
+        "every record of up to {} bytes from {:?}; {} games as they are; {} damaged records; seed {}",
+        plan.longest, plan.bytes, plan.damaged, plan.damaged, plan.seed
     );
     let start = Instant::now();
     let tally = run(&ask, &plan);

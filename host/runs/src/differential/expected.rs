@@ -134,7 +134,7 @@ fn value(call: &Call, given: &Given) -> Expected {
     }
 }
 
-/// Whether a call is not held to the original: it reads a text that request 5 answers otherwise.
+/// Whether a call is not held to the original: it reads a text that request 5 speaks of.
 pub fn is_left_out(call: &Call, given: &Given) -> bool {
     *call == Call::Read && refusal(call, given).is_none() && left_out::text(&given.bytes)
 }

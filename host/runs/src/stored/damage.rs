@@ -1,34 +1,54 @@
-//! Games to be stored, and records with something wrong.
+//! Games to be stored, good and wrong ones, and records that were damaged.
 
 use super::plain::bytes_of;
 use oracle::boards::Dice;
 
-/// A game: mostly a good one.
+/// A game that is to be stored.
 pub struct Stored {
     pub view: u8,
     pub moves: Vec<u8>,
 }
 
-/// Of up to 225 moves, now and then of a few more or many more, with a wrong code or view.
+/// A good one: of up to 225 moves, in view 0 every other time.
 pub fn game(dice: &mut Dice) -> Stored {
     let length = match dice.below(20) {
-        0 => 226 + dice.below(40),
-        1 => 225,
-        2 => 2000 + dice.below(63_000),
-        3..8 => dice.below(8),
+        0 => 225,
+        1..8 => dice.below(8),
         _ => dice.below(226),
     };
-    let mut moves: Vec<u8> = (0..length).map(|_| dice.below(225) as u8).collect();
-    if !moves.is_empty() && dice.chance(10) {
-        let place = dice.below(length);
-        moves[place] = 225 + dice.below(31) as u8;
-    }
-    let view = match dice.below(10) {
-        0 => dice.below(256) as u8,
-        1..6 => 0,
+    let view = match dice.below(2) {
+        0 => 0,
         _ => dice.below(8) as u8,
     };
-    Stored { view, moves }
+    Stored {
+        view,
+        moves: codes(dice, length),
+    }
+}
+
+/// One that may be refused: of a few moves more or many more, with a wrong code or a wrong view.
+pub fn wrong_game(dice: &mut Dice) -> Stored {
+    let mut game = game(dice);
+    if dice.chance(20) {
+        let length = match dice.below(2) {
+            0 => 226 + dice.below(40),
+            _ => 2000 + dice.below(63_000),
+        };
+        game.moves = codes(dice, length);
+    }
+    if !game.moves.is_empty() && dice.chance(20) {
+        let place = dice.below(game.moves.len());
+        game.moves[place] = 225 + dice.below(31) as u8;
+    }
+    if dice.chance(20) {
+        game.view = dice.below(256) as u8;
+    }
+    game
+}
+
+/// So many codes of points.
+fn codes(dice: &mut Dice, length: usize) -> Vec<u8> {
+    (0..length).map(|_| dice.below(225) as u8).collect()
 }
 
 /// Mostly as much as is needed or more, now and then less.
@@ -41,15 +61,18 @@ pub fn room(dice: &mut Dice, needed: usize) -> usize {
     }
 }
 
-/// The game's record; two times in three with up to three things done to it.
+/// A good game's record with one to three things done to it, which is not that record any more.
 pub fn damaged(dice: &mut Dice, game: &Stored) -> Vec<u8> {
-    let mut record = bytes_of(game.view, &game.moves);
-    if dice.below(3) > 0 {
+    let good = bytes_of(game.view, &game.moves);
+    loop {
+        let mut record = good.clone();
         for _ in 0..1 + dice.below(3) {
             damage(dice, &mut record);
         }
+        if record != good {
+            return record;
+        }
     }
-    record
 }
 
 /// One thing done: mostly in the first nine bytes, where tags, lengths and the view stand.

@@ -33,8 +33,8 @@ loop-holds c =
 shared-slice-read-code : tie.Need-shared-slice-read-code Inv-loop μ-loop
 shared-slice-read-code c = search needs
 
-said-of-requires : tie.Need-said-of-requires Inv-loop μ-loop
-said-of-requires c κs =
+said-on-requires : tie.Need-said-on-requires Inv-loop μ-loop
+said-on-requires c κs =
     let s = c .before .before .before in
     let b = s .before .before in
     (s .loop .inv .1, moves-in (b .args .moves .now) (b .pre .0) .1 (s .loop .i) (omega arith), b .pre .1)
@@ -70,9 +70,9 @@ returns c =
     let r = s .loop .player in
     let i = s .loop .i in
     c .with .ensures
-    ∙ ap (λ (x : List ℕ). reportWith (i + 1) (j .said-of .result .reason) winner.None (boardFrom x))
+    ∙ ap (λ (x : List ℕ). reportWith (i + 1) (j .said-on .result .reason) winner.None (boardFrom x))
     (lines-kept l (addOn l (getD moves i 0) r) (o .if1 .taken) (u .put-unless .ensures))
-    ∙ report-fault moves l i r (s .loop .won) (s .loop .inv .1) (s .loop .inv .2) (omega arith) (j .said-of .ensures .0)
+    ∙ report-fault moves l i r (s .loop .won) (s .loop .inv .1) (s .loop .inv .2) (omega arith) (j .said-on .ensures .0)
     (sym (f .is-fault .ensures) ∙ o .if1 .taken)
 
 after-requires : tie.Need-after-requires Inv-loop μ-loop
@@ -104,11 +104,11 @@ loop-again c =
     let h : s .loop .i < length moves = omega arith in
     let hp = moves-in moves (b .pre .0) .1 (s .loop .i) h in
     let good = sym (f .is-fault .ensures) ∙ o .if1 .left in
-    let clear = ap isFault (sym (j .said-of .ensures .0)) ∙ good in
+    let clear = ap isFault (sym (j .said-on .ensures .0)) ∙ good in
     let stone = lines-moved l (addOn l p r) (o .if1 .left) (u .put-unless .ensures) in (
       omega arith,
       stone-sound r won l p (s .loop .inv .1) hp clear stone,
-      report-more moves l (s .loop .i) r won (s .loop .inv .1) (s .loop .inv .2) h hp clear stone (j .said-of .ensures .1 good)
+      report-more moves l (s .loop .i) r won (s .loop .inv .1) (s .loop .inv .2) h hp clear stone (j .said-on .ensures .1 good)
           (w .after .ensures) (c .opponent .ensures),
     )
 
@@ -132,7 +132,7 @@ read-game-spec =
     μ-loop
     loop-holds
     shared-slice-read-code
-    said-of-requires
+    said-on-requires
     is-fault-requires
     put-unless-requires
     add-with

@@ -14,28 +14,32 @@ use Rattle.lists.proofs.codes.four_eyes.Statement.{statement}
 use Rattle.lists.proofs.codes.four_eyes.Tie as tie
 
 abbrev Inv-loop : tie.InvT-loop
-Inv-loop lines code player bytes₀ n₀ d₀ bytes n d = (d ≤ 4)
+Inv-loop lines code player table bytes₀ n₀ d₀ bytes n d = (d ≤ 4)
     × Wrote (zeros 225) 0 (gather d (eyesIn player (cellsOf lines) code)) bytes n
 
 abbrev μ-loop : tie.MeasureT-loop
-μ-loop lines code player bytes₀ n₀ d₀ bytes n d = 4 - d
+μ-loop lines code player table bytes₀ n₀ d₀ bytes n d = 4 - d
+
+addresses-requires : tie.Need-addresses-requires Inv-loop μ-loop
+addresses-requires c κs = search needs
 
 loop-holds : tie.Need-loop-holds Inv-loop μ-loop
 unfolding zeros
 loop-holds c = (omega arith, wrote-start 225 _)
 
 slice-aggregate-keep-eyes : tie.Need-slice-aggregate-keep-eyes Inv-loop μ-loop
-slice-aggregate-keep-eyes c = wrote-length 225 (c .before .before .loop .inv .1)
+slice-aggregate-keep-eyes c = wrote-length 225 (c .before .before .before .loop .inv .1)
 
 keep-eyes-requires : tie.Need-keep-eyes-requires Inv-loop μ-loop
 keep-eyes-requires c κs =
-    let s = c .before .before in
-    let a = s .before .args in
-    let h = s .before .pre in
-    let on = c .before .loop-test .taken in
+    let s = c .before .before .before in
+    let t = s .before in
+    let a = t .before .args in
+    let h = t .before .pre in
+    let on = c .before .before .loop-test .taken in
     let at = parts-place 225 15 _ (eyes-short (a .player) (cellsOf (now (a .lines))) (a .code)) (s .loop .d)
     (s .loop .inv .1) in
-    (h .0, h .1, on, omega (arith, at, on, wrote-length 225 (s .loop .inv .1)))
+    (h .0, h .1, on, omega (arith, at, on, wrote-length 225 (s .loop .inv .1)), t .addresses .ensures)
 
 add-d : tie.Need-add-d Inv-loop μ-loop
 add-d c = search needs
@@ -45,14 +49,14 @@ loop-less c = search needs
 
 loop-again : tie.Need-loop-again Inv-loop μ-loop
 loop-again c =
-    let s = c .before .before .before .before in
+    let s = c .before .before .before .before .before in
     (omega arith, wrote-part _ (s .loop .d) (s .loop .inv .1) (c .before .keep-eyes .ensures))
 
 returns : tie.Need-returns Inv-loop μ-loop
 unfolding fourEyes
 returns c =
     let s = c .before in
-    let a = s .before .args in
+    let a = s .before .before .args in
     parts-end 225 15 _ (eyes-short (a .player) (cellsOf (now (a .lines))) (a .code)) (s .loop .d) 4
     (omega arith) (omega arith) (s .loop .inv .1)
 
@@ -62,6 +66,7 @@ four-eyes-spec =
     (tie.spec
     Inv-loop
     μ-loop
+    addresses-requires
     loop-holds
     slice-aggregate-keep-eyes
     keep-eyes-requires

@@ -3,15 +3,15 @@ use mathlib.Core.Path.{sym, _∙_}
 use denote.Ref.{now}
 use Rattle.point.proofs.Stored.{place-stored, place-has, place-key}
 use Rattle.grid.specs.Lines.{cellsOf}
-use Rattle.grid.proofs.Placed.{place-fits}
+use Rattle.grid.proofs.Placed.{place-fits, by-addresses, starts-at}
 use Rattle.lent.proofs.Laws.{wrote-none, wrote-as}
 use Rattle.lists.proofs.Shown.{point-rows, no-rows}
 use borrow.Author.Needs.{needs}
 use Rattle.lists.proofs.row_bytes.keep_rows_along.Statement.{statement}
 use Rattle.lists.proofs.row_bytes.keep_rows_along.Tie as tie
 
-address-requires : tie.Need-address-requires
-address-requires c κs = search needs
+address-by-requires : tie.Need-address-by-requires
+address-by-requires c κs = search needs
 
 mask-on-requires : tie.Need-mask-on-requires
 mask-on-requires c κs = search needs
@@ -22,15 +22,16 @@ opponent-requires c κs = search needs
 mask-on-requires-2 : tie.Need-mask-on-requires-2
 mask-on-requires-2 c κs = search needs
 
-starts-along-requires : tie.Need-starts-along-requires
-starts-along-requires c κs = search needs
+starts-at-requires : tie.Need-starts-at-requires
+starts-at-requires c κs = search needs
 
 keep-rows-requires : tie.Need-keep-rows-requires
 keep-rows-requires c κs =
     let s = c .before .before .before .before .before .before in
     let st = s .before .before in
     let t = c .before .before .before .before .before .if1 .taken in
-    (place-fits (s .address .result) (st .args .d) (st .args .code) (s .address .ensures) (st .pre .2) t, st .pre .3)
+    let e = by-addresses (st .args .d) (st .args .code) (s .address-by .ensures) (st .pre .4) in
+    (place-fits (s .address-by .result) (st .args .d) (st .args .code) e (st .pre .2) t, st .pre .3)
 
 same-length : tie.Need-same-length
 same-length c = search needs
@@ -40,11 +41,12 @@ returns c =
     let s = c .before .before .before .before .before .before .before .before .before in
     let st = s .before .before in
     let a = st .args in
-    let e = s .address .ensures in
+    let e = by-addresses (a .d) (a .code) (s .address-by .ensures) (st .pre .4) in
     let t = c .before .before .before .before .before .before .before .before .if1 .taken in
     wrote-as (c .before .before .keep-rows .ensures)
     (rw (
-      c .before .before .before .before .starts-along .ensures,
+      c .before .before .before .before .starts-at .ensures
+          ∙ starts-at (s .address-by .result) (a .d) (a .code) e (now (a .lines)) (a .player) (a .kind),
       c .before .before .before .before .before .mask-on2 .ensures,
       c .before .before .before .before .before .before .opponent .ensures,
       c .before .before .before .before .before .before .before .mask-on .ensures,
@@ -59,17 +61,17 @@ returns-2 c =
     let h = st .pre in
     wrote-as (wrote-none _ _)
     (no-rows (a .player) (a .kind) (cellsOf (now (a .lines))) (a .code) (a .d) (h .2) (h .1)
-    (sym (place-stored (a .d) (a .code) (c .before .address .ensures)) ∙ c .if1 .left))
+    (sym (place-stored (a .d) (a .code) (by-addresses (a .d) (a .code) (c .before .address-by .ensures) (h .4))) ∙ c .if1 .left))
 
 pub keep-rows-along-spec : {M : Type 1} → statement M
 keep-rows-along-spec =
     tie.close
     (tie.spec
-    address-requires
+    address-by-requires
     mask-on-requires
     opponent-requires
     mask-on-requires-2
-    starts-along-requires
+    starts-at-requires
     keep-rows-requires
     same-length
     returns

@@ -1,12 +1,8 @@
--- `grid::starts::starts_along` meets its contract: the rows of the line that the address names. Assumes nothing.
-use denote.Ref.{now}
-use Rattle.grid.proofs.Placed.{place-starts, nowhere-starts}
+-- `grid::starts::starts_at` meets its contract: the rows of the line of the address. Assumes nothing.
+use Rattle.grid.specs.Lines.{startsAt}
 use borrow.Author.Needs.{needs}
-use Rattle.grid.proofs.starts.starts_along.Statement.{statement}
-use Rattle.grid.proofs.starts.starts_along.Tie as tie
-
-address-requires : tie.Need-address-requires
-address-requires c κs = search needs
+use Rattle.grid.proofs.starts.starts_at.Statement.{statement}
+use Rattle.grid.proofs.starts.starts_at.Tie as tie
 
 mask-on-requires : tie.Need-mask-on-requires
 mask-on-requires c κs = search needs
@@ -27,9 +23,8 @@ row-starts-on-requires : tie.Need-row-starts-on-requires
 row-starts-on-requires c κs = search needs
 
 returns : tie.Need-returns
+unfolding startsAt
 returns c =
-    let s = c .before .before .before .before .before .before .before in
-    let a = s .before .args in
     rw (
       c .row-starts-on .ensures,
       c .before .is-black .ensures,
@@ -37,21 +32,17 @@ returns c =
       c .before .before .before .mask-on2 .ensures,
       c .before .before .before .before .opponent .ensures,
       c .before .before .before .before .before .mask-on .ensures,
+      c .before .before .before .before .before .before .if1 .taken,
     )
-    (place-starts (s .address .result) (a .d) (a .code) (s .address .ensures) (now (a .lines)) (a .player) (a .kind)
-    (c .before .before .before .before .before .before .if1 .taken))
 
 returns-2 : tie.Need-returns-2
-returns-2 c =
-    let a = c .before .before .args in
-    nowhere-starts (c .before .address .result) (a .d) (a .code) (c .before .address .ensures) (now (a .lines)) (a .player) (a .kind)
-    (c .if1 .left)
+unfolding startsAt
+returns-2 c = rw (c .if1 .left)
 
-pub starts-along-spec : {M : Type 1} → statement M
-starts-along-spec =
+pub starts-at-spec : {M : Type 1} → statement M
+starts-at-spec =
     tie.close
     (tie.spec
-    address-requires
     mask-on-requires
     opponent-requires
     mask-on-requires-2

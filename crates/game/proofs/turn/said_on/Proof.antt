@@ -1,4 +1,4 @@
--- `game::turn::said_of` meets its contract: the reason by its three tests, the five by the Fours. Assumes nothing.
+-- `game::turn::said_on` meets its contract: the reason by its three tests, the five by the Fours. Assumes nothing.
 use mathlib.Core.Path.{sym, ap, _∙_}
 use borrow.Author.Needs.{needs}
 use Rattle.rules.proofs.Fives.{five-told}
@@ -7,8 +7,8 @@ use Rattle.grid.proofs.Lines.{length-cellsOf}
 use Rattle.referee.proofs.Asked.{free-is}
 use Rattle.game.specs.Game.{isFault}
 use Rattle.game.proofs.Read.{reason-told, point-free}
-use Rattle.game.proofs.turn.said_of.Statement.{statement}
-use Rattle.game.proofs.turn.said_of.Tie as tie
+use Rattle.game.proofs.turn.said_on.Statement.{statement}
+use Rattle.game.proofs.turn.said_on.Tie as tie
 
 cell-on-requires : tie.Need-cell-on-requires
 cell-on-requires c κs = search needs
@@ -49,8 +49,8 @@ returns c =
           (c .some-row .ensures)),
     )
 
-pub said-of-spec : {M : Type 1} → statement M
-said-of-spec =
+pub said-on-spec : {M : Type 1} → statement M
+said-on-spec =
     tie.close
     (tie.spec
     cell-on-requires
