@@ -22,7 +22,7 @@ use std::fmt;
 pub enum Verdict {
     /// Not forbidden.
     None = 0,
-    /// Two threes at once that can both become a straight four.
+    /// Two threes at once that can both become a straight four, with no five made at the same time.
     DoubleThree = 1,
     /// Two fours at once.
     DoubleFour = 2,

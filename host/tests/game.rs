@@ -92,6 +92,17 @@ fn a_five_that_makes_two_fours_wins() {
     assert_eq!(report(&in_turn(blacks, whites)).winner, Some(Colour::Black));
 }
 
+/// Request 6: an eye that completes a five makes no real Three, at the first question and one
+/// deeper. The original forbids the first move and not the second.
+#[test]
+fn a_three_is_no_five() {
+    let corner = "A15 C15 E15 G15 I15 K15 M15 O15";
+    let played = report(&in_turn("D5 E6 F8 F9 G8 H6 H9 F6", &corner[..27]));
+    assert_eq!(played.to_string(), "no fault, nobody has won");
+    let played = report(&in_turn("F6 G5 G7 I5 I6 I8 I9 J8 G6", corner));
+    assert_eq!(played.to_string(), "move 17 (G6): forbidden, DoubleThree");
+}
+
 #[test]
 fn the_report_of_the_turned_moves_is_turned() {
     let games = [

@@ -6,8 +6,9 @@ use common::{Dice, boards};
 use renju::{Cells, Colour, Kind, Point, Refusal, Verdict, second};
 use std::collections::HashSet;
 
-/// Black's stones, a point, and its strict verdict, which turns on the sixth of the questions that
-/// stand inside one another, the seventh, and so on to the tenth.
+/// Black's stones, a point, and its strict verdict. It turns on the sixth of the questions that stand
+/// inside one another, on the seventh, the ninth and the tenth; in the third, by request 6, on an eye
+/// that completes a five, without which it is none.
 const NESTED: [(&str, &str, Verdict); 5] = [
     (
         "G7 G9 G10 G11 G12 J7 J8 J9 J10 J11 J12",
@@ -22,7 +23,7 @@ const NESTED: [(&str, &str, Verdict); 5] = [
     (
         "B12 C8 C11 D7 D10 E9 E12 F8 F11 F14 G10 H6 H9 H12 I8 I11",
         "G9",
-        Verdict::None,
+        Verdict::DoubleThree,
     ),
     (
         "D11 D14 E11 E14 F11 F14 G11 G14 H11 H14 I11 I14 J11 J14 K11 K14 L11 L14 M11",

@@ -20,7 +20,8 @@ fn cells(blacks: &str, whites: &str) -> Cells {
     cells
 }
 
-/// Cases C6 to C12 of section 8.
+/// Cases C6 to C12 of section 8, and the two boards beside them that request 6 answers otherwise
+/// than document 01 alone: the eye of a Three completes a five.
 #[test]
 fn cases() {
     let cross = "G8 I8 H7 H9";
@@ -32,6 +33,14 @@ fn cases() {
         ("C9", "E8 F8 G8 H9 H10 H11", "", "H8", Verdict::DoubleFour),
         ("C11", "D8 F8 H8 J8", "", "G8", Verdict::DoubleFour),
         ("C12", "E8 F8 G8", "", "H8", Verdict::None),
+        ("five", "D5 E6 F8 F9 G8 H6 H9", "", "F6", Verdict::None),
+        (
+            "five, one question deeper",
+            "F6 G5 G7 I5 I6 I8 I9 J8",
+            "",
+            "G6",
+            Verdict::DoubleThree,
+        ),
     ] {
         let cells = cells(blacks, whites);
         assert_eq!(cells.forbidden_strict(point(at)), strict, "{name}");

@@ -1,8 +1,9 @@
-//! The naive reading against the original: counting and comparing.
+//! The naive reading against the original: counting and comparing. Verdicts and
+//! lists that meet an eye that completes a five are left out and counted.
 
 use crate::board::board::Board;
 use crate::boards::{self, Dice, SORTS};
-use crate::naive::{self, Cells, EMPTY, KINDS, POINTS};
+use crate::naive::{self, Answer, Cells, EMPTY, KINDS, POINTS};
 use crate::naive_text;
 use crate::original;
 
@@ -14,7 +15,18 @@ pub struct Tally {
     pub differences: usize,
     pub deep: usize,
     pub forbidden: usize,
+    pub left_out: LeftOut,
     pub smallest: Option<Failure>,
+}
+
+/// How many answers were left out by request 6, and how many of them are others
+/// than the original's.
+#[derive(Default)]
+pub struct LeftOut {
+    pub verdicts: usize,
+    pub lists: usize,
+    pub other_verdicts: usize,
+    pub other_lists: usize,
 }
 
 /// A board on which the two differ, and the question they differ in.
@@ -74,17 +86,39 @@ pub fn verdicts(cells: &Cells, board: &Board, tally: &mut Tally) {
         let answer = naive::strict(cells, p);
         deepest = deepest.max(answer.depth);
         let strict = original::strict(board, p as u8);
-        tally.compare(cells, answer.verdict, strict, || format!("strict at {p}"));
+        verdict(cells, answer, strict, tally, || format!("strict at {p}"));
         if cells[p] == EMPTY {
             let plain = original::plain(board, p as u8);
-            let naive = naive::plain(cells, p).verdict;
-            tally.compare(cells, naive, plain, || format!("plain at {p}"));
+            let answer = naive::plain(cells, p);
+            verdict(cells, answer, plain, tally, || format!("plain at {p}"));
         }
     }
     let list = original::forbidden_list(board);
     tally.forbidden += list.len();
     tally.deep += usize::from(deepest >= boards::NESTED_DEPTH);
-    tally.compare(cells, naive::forbidden_list(cells), list, || "list".into());
+    let (naive, five_eye) = naive::listed(cells);
+    if five_eye {
+        tally.left_out.lists += 1;
+        tally.left_out.other_lists += usize::from(naive != list);
+    } else {
+        tally.compare(cells, naive, list, || "list".into());
+    }
+}
+
+/// One verdict, compared unless it is left out.
+fn verdict(
+    cells: &Cells,
+    naive: Answer,
+    original: u8,
+    tally: &mut Tally,
+    question: impl FnOnce() -> String,
+) {
+    if naive.five_eye {
+        tally.left_out.verdicts += 1;
+        tally.left_out.other_verdicts += usize::from(naive.verdict != original);
+    } else {
+        tally.compare(cells, naive.verdict, original, question);
+    }
 }
 
 /// The rows of the whole board, of every kind and colour.

@@ -131,11 +131,14 @@ pub struct Turning {
     pub blacks: &'static str,
     pub at: &'static str,
     pub strict: u8,
-    /// How many strict questions stand inside one another.
+    /// The verdict by request 6: another where an eye that completes a five is met on the way.
+    pub by_request_6: u8,
+    /// How many strict questions stand inside one another, by request 6.
     pub depth: usize,
 }
 
-/// Found by search and with every stone taken off that was not needed.
+/// Found by search and with every stone taken off that was not needed. The
+/// verdicts are the original's.
 pub const TURNING: [Turning; 17] = [
     turning(
         naive::NONE,
@@ -172,20 +175,26 @@ pub const TURNING: [Turning; 17] = [
         "D4",
         "E2 E4 F4 F6 G7 H2",
     ),
-    turning(
-        naive::DOUBLE_THREE,
-        "an eye that completes a five",
-        2,
-        "D5",
-        "B4 C5 D7 D8 E7 F5 F8",
-    ),
-    turning(
-        naive::NONE,
-        "an eye that completes a five",
-        3,
-        "K3",
-        "J3 K2 K4 M2 M3 M5 M6 N5",
-    ),
+    Turning {
+        by_request_6: naive::NONE,
+        ..turning(
+            naive::DOUBLE_THREE,
+            "an eye that completes a five",
+            2,
+            "D5",
+            "B4 C5 D7 D8 E7 F5 F8",
+        )
+    },
+    Turning {
+        by_request_6: naive::DOUBLE_THREE,
+        ..turning(
+            naive::NONE,
+            "an eye that completes a five",
+            3,
+            "K3",
+            "J3 K2 K4 M2 M3 M5 M6 N5",
+        )
+    },
     turning(
         naive::DOUBLE_THREE,
         "the stone being on at the eye",
@@ -235,13 +244,16 @@ pub const TURNING: [Turning; 17] = [
         "E7",
         "D5 D7 D8 D9 D10 G5 G6 G7 G8 G9 G10 G11",
     ),
-    turning(
-        naive::NONE,
-        "the eighth question",
-        8,
-        "G9",
-        "B12 C8 C11 D7 D10 E9 E12 F8 F11 F14 G10 H6 H9 H12 I8 I11",
-    ),
+    Turning {
+        by_request_6: naive::DOUBLE_THREE,
+        ..turning(
+            naive::NONE,
+            "an eye that completes a five",
+            7,
+            "G9",
+            "B12 C8 C11 D7 D10 E9 E12 F8 F11 F14 G10 H6 H9 H12 I8 I11",
+        )
+    },
     turning(
         naive::DOUBLE_THREE,
         "the ninth question",
@@ -270,6 +282,7 @@ const fn turning(
         blacks,
         at,
         strict,
+        by_request_6: strict,
         depth,
     }
 }

@@ -3,6 +3,7 @@
 
 use crate::boards::{self, Dice};
 use crate::left_out;
+use crate::naive;
 use crate::naive_text::write_diagram;
 use crate::original;
 use crate::texts;
@@ -11,7 +12,8 @@ use std::fmt::Write;
 const KINDS: [&str; 4] = ["", "DoubleThree", "DoubleFour", "Overline"];
 
 /// The listing of a text. Refusals 1 and 2 are the port's own: the original
-/// reads such texts. A text that is left out is read by the naive reading.
+/// reads such texts. A text that is left out is read by the naive reading, and a
+/// list that is left out is that of the naive reading.
 pub fn listing(text: &[u8]) -> String {
     if text.len() > 4096 {
         return refused(1);
@@ -20,9 +22,16 @@ pub fn listing(text: &[u8]) -> String {
         return refused(2);
     }
     match left_out::read(text) {
-        Ok(cells) => listed(&original::forbidden_list(&original::to_board(&cells))),
+        Ok(cells) => listed(&left_out::forbidden_list(&cells, &original::to_board(&cells)).answer),
         Err(number) => refused(number),
     }
+}
+
+/// Whether the list of a text's board is left out of the comparison with the
+/// original, by request 6.
+pub fn list_is_left_out(text: &[u8]) -> bool {
+    let reads = text.len() <= 4096 && text.is_ascii();
+    reads && left_out::read(text).is_ok_and(|cells| naive::listed(&cells).1)
 }
 
 fn refused(number: u8) -> String {

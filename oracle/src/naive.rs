@@ -1,4 +1,5 @@
-//! A naive reading of sections 3 to 6 of document 01, cell by cell.
+//! A naive reading of sections 3 to 6 of document 01, with request 6 of
+//! document 02, cell by cell.
 //!
 //! A board is 225 cell values and a line is its values one after another.
 //! Nothing here is packed into bits: the two masks of a row are added up
@@ -371,11 +372,25 @@ pub fn neighbours(cells: &Cells, p: usize, distance: usize, only_empty: bool) ->
     found
 }
 
-/// A verdict, with how many strict questions stood inside one another.
+/// A verdict, with how many strict questions stood inside one another, and
+/// whether on the way to it, at any level, the eye of a Three completed a five.
+/// Where none did, request 6 changes nothing: the original answers the same.
 #[derive(Debug, Clone, Copy, PartialEq, Eq)]
 pub struct Answer {
     pub verdict: u8,
     pub depth: usize,
+    pub five_eye: bool,
+}
+
+impl Answer {
+    /// Of a question that asks no other.
+    fn quick(verdict: u8, depth: usize) -> Self {
+        Self {
+            verdict,
+            depth,
+            five_eye: false,
+        }
+    }
 }
 
 /// Where a row starts: the line's key and the cell.
@@ -410,67 +425,82 @@ pub fn more_than_one(starts: &[Start]) -> bool {
 /// kind that applies."
 pub fn plain(cells: &Cells, p: usize) -> Answer {
     let lines: Vec<_> = lines_through(cells, p).collect();
-    let quick = |verdict| Answer { verdict, depth: 0 };
     if !black_starts(&lines, Overlining).is_empty() {
-        quick(OVERLINE)
+        Answer::quick(OVERLINE, 0)
     } else if more_than_one(&black_starts(&lines, Sword)) {
-        quick(DOUBLE_FOUR)
+        Answer::quick(DOUBLE_FOUR, 0)
     } else if more_than_one(&black_starts(&lines, Two)) {
         real_threes(cells, p)
     } else {
-        quick(NONE)
+        Answer::quick(NONE, 0)
     }
 }
 
-/// "on the board with Black at p more than one real Three through p. A Three
-/// is real when the strict verdict at its one eye, on that board, is none."
+/// "on the board with Black at p more than one real Three through p." "A
+/// Three is real when its eye completes no black five on that board and the
+/// strict verdict there is none, at every level of nesting."
 fn real_threes(cells: &Cells, p: usize) -> Answer {
     let mut next = *cells;
     next[p] = BLACK;
     let mut real = Vec::new();
-    let mut depth = 0;
+    let mut answer = Answer::quick(NONE, 0);
     for (line, i) in lines_through(&next, p) {
         for j in starts_on(line.cells(), i, BLACK, Three) {
             let eye = eyes(line.cells(), j, Three).next().expect("one eye");
-            let nested = strict(&next, point_at(line.key, eye));
-            depth = depth.max(nested.depth);
-            if nested.verdict == NONE {
+            let eye = point_at(line.key, eye);
+            let is_five = completes_five(&next, eye);
+            let nested = strict(&next, eye);
+            answer.depth = answer.depth.max(nested.depth);
+            answer.five_eye |= is_five || nested.five_eye;
+            if !is_five && nested.verdict == NONE {
                 real.push((line.key, j));
             }
             if more_than_one(&real) {
-                let verdict = DOUBLE_THREE;
-                return Answer { verdict, depth };
+                answer.verdict = DOUBLE_THREE;
+                return answer;
             }
         }
     }
-    let verdict = NONE;
-    Answer { verdict, depth }
+    answer
+}
+
+/// "a black Four goes through p (p completes a five)".
+fn completes_five(cells: &Cells, p: usize) -> bool {
+    lines_through(cells, p).any(|(line, i)| !starts_on(line.cells(), i, BLACK, Four).is_empty())
 }
 
 /// "The strict verdict is none at an occupied point or where a black Four
 /// goes through p (p completes a five); otherwise it is the plain one."
 pub fn strict(cells: &Cells, p: usize) -> Answer {
-    let verdict = NONE;
     if cells[p] != EMPTY {
-        return Answer { verdict, depth: 0 };
+        return Answer::quick(NONE, 0);
     }
-    let fours = |(line, i): (Seen, usize)| !starts_on(line.cells(), i, BLACK, Four).is_empty();
-    if lines_through(cells, p).any(fours) {
-        return Answer { verdict, depth: 1 };
+    if completes_five(cells, p) {
+        return Answer::quick(NONE, 1);
     }
-    let Answer { verdict, depth } = plain(cells, p);
-    let depth = depth + 1;
-    Answer { verdict, depth }
+    let mut answer = plain(cells, p);
+    answer.depth += 1;
+    answer
 }
 
 /// "The forbidden list holds each empty point whose strict verdict is a
 /// kind, by ascending code: kind byte (..), then code."
 pub fn forbidden_list(cells: &Cells) -> Vec<(u8, u8)> {
-    (0..POINTS)
-        .filter(|&p| cells[p] == EMPTY)
-        .map(|p| (strict(cells, p).verdict, p as u8))
-        .filter(|&(verdict, _)| verdict != NONE)
-        .collect()
+    listed(cells).0
+}
+
+/// The list, and whether one of its verdicts met an eye that completes a five.
+pub fn listed(cells: &Cells) -> (Vec<(u8, u8)>, bool) {
+    let mut list = Vec::new();
+    let mut five_eye = false;
+    for p in (0..POINTS).filter(|&p| cells[p] == EMPTY) {
+        let answer = strict(cells, p);
+        five_eye |= answer.five_eye;
+        if answer.verdict != NONE {
+            list.push((answer.verdict, p as u8));
+        }
+    }
+    (list, five_eye)
 }
 
 /// The deepest nesting that a strict question meets at any point.

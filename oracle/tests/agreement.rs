@@ -24,6 +24,15 @@ fn boards_agree() {
         );
     }
     assert!(tally.deep >= 600 && tally.forbidden > 10_000);
+    // Request 6 leaves something out, and not much.
+    let left_out = &tally.left_out;
+    println!(
+        "left out: verdicts {} ({} otherwise), lists {} ({} otherwise)",
+        left_out.verdicts, left_out.other_verdicts, left_out.lists, left_out.other_lists
+    );
+    assert!((1..tally.comparisons / 20).contains(&left_out.verdicts));
+    assert!((1..tally.boards / 2).contains(&left_out.lists));
+    assert!(left_out.other_verdicts > 0 && left_out.other_lists > 0);
 }
 
 /// The line with the given number to base three, cell 0 the lowest digit.

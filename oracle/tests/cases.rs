@@ -78,7 +78,7 @@ fn turning_boards() {
     for case in TURNING {
         let (cells, p) = (case.cells(), case.point());
         let answer = naive::strict(&cells, p);
-        assert_eq!(answer.verdict, case.strict, "{}", case.on);
+        assert_eq!(answer.verdict, case.by_request_6, "{}", case.on);
         assert_eq!(answer.depth, case.depth, "{}", case.on);
         let board = original::to_board(&cells);
         assert_eq!(

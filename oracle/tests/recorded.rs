@@ -3,7 +3,7 @@
 
 use oracle::boards::NESTED_DEPTH;
 use oracle::naive::{self, Cells};
-use oracle::{left_out, naive_text, vectors};
+use oracle::{left_out, naive_text, original, vectors};
 use std::fs;
 use std::path::Path;
 
@@ -13,9 +13,14 @@ fn recorded(name: &str) -> String {
 }
 
 fn fields_of(text: &str, letter: &str) -> Vec<Vec<String>> {
+    fields_of_either(text, [letter; 2])
+}
+
+/// The records of either letter, in the file's order.
+fn fields_of_either(text: &str, letters: [&str; 2]) -> Vec<Vec<String>> {
     text.lines()
         .map(|line| line.split(' ').map(String::from).collect::<Vec<_>>())
-        .filter(|fields| fields[0] == letter)
+        .filter(|fields| letters.contains(&fields[0].as_str()))
         .collect()
 }
 
@@ -59,8 +64,11 @@ fn form_is_kept() {
 #[test]
 fn naive_replays_the_verdicts() {
     let text = recorded("boards.txt");
-    let of = |letter| fields_of(&text, letter);
-    let (boards, stricts, plains, lists) = (of("b"), of("s"), of("p"), of("f"));
+    let of = |letters: [&str; 2]| fields_of_either(&text, letters);
+    let (boards, stricts) = (fields_of(&text, "b"), of(["s", "S"]));
+    let (plains, lists) = (of(["p", "P"]), of(["f", "F"]));
+    assert_eq!(stricts.len(), boards.len());
+    assert_eq!((plains.len(), lists.len()), (boards.len(), boards.len()));
     for i in 0..boards.len() {
         let cells = cells_of(&boards[i][1]);
         let strict: String = (0..225)
@@ -79,6 +87,33 @@ fn naive_replays_the_verdicts() {
         let pairs = naive::forbidden_list(&cells);
         let list: Vec<u8> = pairs.into_iter().flat_map(|(k, p)| [k, p]).collect();
         assert_eq!(list, bytes_of(&lists[i][1]));
+    }
+}
+
+/// Where request 6 answers otherwise both answers are recorded, under letters of
+/// their own, and nowhere else; the second is the original's.
+#[test]
+fn verdicts_of_request_6_stand_apart() {
+    let text = recorded("boards.txt");
+    let boards = fields_of(&text, "b");
+    let stricts = fields_of_either(&text, ["s", "S"]);
+    let mut apart = 0;
+    for (board, strict) in boards.iter().zip(&stricts) {
+        let board = original::to_board(&cells_of(&board[1]));
+        let theirs: String = (0..225)
+            .map(|p| original::strict(&board, p).to_string())
+            .collect();
+        assert_eq!(strict.last(), Some(&theirs));
+        let is_apart = strict[0] == "S";
+        assert_eq!(strict.len(), if is_apart { 3 } else { 2 });
+        assert_eq!(is_apart, strict[1] != theirs);
+        apart += usize::from(is_apart);
+    }
+    assert!((3..boards.len() / 2).contains(&apart), "{apart}");
+    for letter in ["P", "F"] {
+        let both = fields_of(&text, letter);
+        assert!(both.iter().all(|f| f.len() == 3 && f[1] != f[2]));
+        assert!(both.len() >= 3, "{letter} {}", both.len());
     }
 }
 

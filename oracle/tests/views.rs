@@ -2,14 +2,14 @@
 
 use oracle::boards::{self, Dice, SORTS};
 use oracle::naive::{self, POINTS};
-use oracle::original;
+use oracle::{left_out, original};
 
 /// A turned board has the turned list, and at each turned point the verdict
 /// of the point.
 #[test]
 fn views_keep_verdict_and_list() {
     let mut dice = Dice::new(31);
-    let mut forbidden = 0;
+    let (mut forbidden, mut compared) = (0, 0);
     for i in 0..60 {
         let cells = boards::of_sort(SORTS[i % SORTS.len()], &mut dice);
         let list = naive::forbidden_list(&cells);
@@ -19,7 +19,9 @@ fn views_keep_verdict_and_list() {
             let expected = naive::turned_list(view, &list);
             assert_eq!(naive::forbidden_list(&turned), expected);
             let board = original::to_board(&turned);
-            assert_eq!(original::forbidden_list(&board), expected);
+            let held = left_out::forbidden_list(&turned, &board);
+            assert_eq!(held.answer, expected);
+            compared += usize::from(!held.left_out);
             for p in 0..POINTS {
                 let at = naive::turned_point(view, p);
                 let (a, b) = (naive::strict(&cells, p), naive::strict(&turned, at));
@@ -27,7 +29,7 @@ fn views_keep_verdict_and_list() {
             }
         }
     }
-    assert!(forbidden > 200);
+    assert!(forbidden > 200 && compared > 240);
 }
 
 /// Each sends the 225 points to the 225 points, and no two are the same.

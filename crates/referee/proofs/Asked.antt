@@ -100,5 +100,5 @@ module _ (l table : List ℕ) (p : ℕ) (t : table ≡ addresses) (s : Sound l) 
       eo ∙ mark-by n table p Black false t ∙ ap (λ (x : List ℕ). liftOn x p Black) (en ∙ added-on) ∙ trial-marked l p Black s hp free
 
 -- ---- what falls, on lines m that are the lines l at the start
-pub fewer : (n : ℕ) (l m : List ℕ) (t : ℕ) → m ≡ l → 7 * empties (cellsOf l) + suc n ≡ t → 7 * empties (cellsOf m) + n < t
+pub fewer : (n : ℕ) (l m : List ℕ) (t : ℕ) → m ≡ l → 6 * empties (cellsOf l) + suc n ≡ t → 6 * empties (cellsOf m) + n < t
 fewer n l m t e h = rw e (omega arith)

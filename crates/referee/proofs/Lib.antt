@@ -2,7 +2,7 @@
 
 -- a player's rows by the masks of the four lines are those of the cells; section 5's order by Black's start masks is the verdict
 pub mod RowsSeen
--- the eye of a Three is found on sound lines, and each number on the way fits a byte
+-- the eye of a Three is found on sound lines, and each number on the way fits a byte; the rows through it tell whether the Three is real
 pub mod EyeFound
 -- the strict question on sound lines: the cell at the point; the trial stone put and taken off
 pub mod Asked

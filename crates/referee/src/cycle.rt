@@ -36,7 +36,7 @@ pub(crate) fn strict(lines: &mut [u16; 144], table: &[u16; 900], code: u8) -> Ve
     strict_by(lines, table, code, rows)
 }
 
-// .. by the rows that go through the point. Here and in `plain` the lines are asked only where more than one Two goes through it.
+// .. by the rows that go through the empty point. Here and in `plain` the lines are asked only where more than one Two goes through it.
 pub(crate) fn strict_by(lines: &mut [u16; 144], table: &[u16; 900], code: u8, rows: Rows) -> Verdict
     requires { ⌜ (code < 225) × (T (moreThanOne (startsOf (rows .twos))) → Triable (now lines) code (rows .twos))
         × (now table ≡ addresses) ⌝ }
@@ -127,7 +127,8 @@ fn first_real(
     64
 }
 
-// "A Three is real when the strict verdict at its one eye, on that board, is none."
+// "a Three is real when its eye completes no black five on that board and the strict verdict there is none, at every level of nesting"
+// (document 02, No. 6). One look at the rows through the eye tells the five and, handed on, the verdict. An eye is empty.
 fn is_real(lines: &mut [u16; 144], table: &[u16; 900], code: u8, three: u8) -> bool
     requires { ⌜ Sound (now lines) × (code < 225) × (three < 64)
         × T (rowsThrough Black Three (cellsOf (now lines)) code (three / 16) (three % 16)) × (now table ≡ addresses) ⌝ }
@@ -135,5 +136,10 @@ fn is_real(lines: &mut [u16; 144], table: &[u16; 900], code: u8, three: u8) -> b
         × (now (lines .exit) ≡ now (lines .entry)) ⌝ }
 {
     let eye = eye_on(lines, table, code, three);
-    strict(lines, table, eye).is_none()
+    let rows = rows_on(lines, table, eye);
+    let eye_fours = rows.fours;
+    if some_row(eye_fours) {
+        return false;
+    }
+    strict_by(lines, table, eye, rows).is_none()
 }

@@ -66,7 +66,7 @@ fn ask(cells: &[u8], q: &[u8], out: &mut [u8]) -> u32 {
     let b = byte_at(q, 2);
     let c = byte_at(q, 3);
     match byte_at(q, 0) {
-        b'f' => renju_forbidden_points(cells, out),
+        b'f' | b'F' => renju_forbidden_points(cells, out),
         b'k' => renju_stones(cells, a, out),
         b'm' => renju_empty_points(cells, out),
         b'r' => renju_rows(cells, a, b, out),

@@ -43,7 +43,7 @@ fn is_list(record: &[u8], digits: &[u8], at: u8) -> bool {
 // 225 is no code, 8, and no colour, kind or distance, 12. Both are refused before too little room is.
 fn replay_bounds(t: u32, cells: &[u8], letter: u8, a: u8, b: u8) -> u32 {
     match letter {
-        b'f' | b'm' => t,
+        b'f' | b'F' | b'm' => t,
         b'k' => answer(t, refuses(cells, &[letter, 225], 0, 12)),
         b'r' => answer(
             answer(t, refuses(cells, &[letter, 225, b], 0, 12)),

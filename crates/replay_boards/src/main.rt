@@ -1,5 +1,6 @@
 // Replays recorded answers about boards, read from standard input: asks each question again and holds the answer to the record. Writes what
-// `records` says of a replay.
+// `records` says of a replay. The answers are the original's; under `S`, `P` and `F`, where request 6 answers otherwise, the original's is
+// shown behind the one that is replayed.
 mod asked;
 mod boards;
 mod changes;
@@ -9,12 +10,14 @@ mod verdicts;
 mod views;
 
 use boards::replay_board;
+use lent::head;
 use lent::tail;
 use listed::replay_list;
 use records::answer;
 use records::byte_at;
 use records::cells_of;
 use records::count;
+use records::find_from;
 use records::line_at;
 use records::next_line;
 use records::read_records;
@@ -38,13 +41,13 @@ fn replay_all(text: &[u8]) {
         opened = opened_at(record, at, opened);
         count(
             &mut counts,
-            b"bspfkmroen",
+            b"bsSpPfFkmroen",
             record,
             replay(line_at(text, opened), record),
         );
         at = next_line(text, at);
     }
-    say_counts(b"bspfkmroen", &counts);
+    say_counts(b"bsSpPfFkmroen", &counts);
 }
 
 // The place of a record that opens a block, else that of the one before.
@@ -61,7 +64,9 @@ fn replay(block: &[u8], record: &[u8]) -> u32 {
     match byte_at(record, 0) {
         b'b' => replay_board(cells),
         b's' | b'p' => replay_verdicts(cells, record),
+        b'S' | b'P' => replay_verdicts(cells, first_answer(record)),
         b'f' => replay_list(cells, record, 2, 2),
+        b'F' => replay_list(cells, first_answer(record), 2, 2),
         b'k' => replay_list(cells, record, 5, 1),
         b'm' => replay_list(cells, record, 2, 1),
         b'r' => replay_list(cells, record, 8, 4),
@@ -70,4 +75,9 @@ fn replay(block: &[u8], record: &[u8]) -> u32 {
         b'n' => replay_list(cells, record, 11, 1),
         _ => answer(0, false),
     }
+}
+
+// A record that shows two answers, without the second.
+fn first_answer(record: &[u8]) -> &[u8] {
+    head(record, find_from(record, 2, b' '))
 }

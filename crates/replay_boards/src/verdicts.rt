@@ -1,4 +1,4 @@
-// Records that hold a verdict for every point: `s` the strict ones, `p` the plain ones.
+// Records that hold a verdict for every point: `s` and `S` the strict ones, `p` and `P` the plain ones.
 use board::Board;
 use host::renju_forbidden;
 use host::renju_forbidden_strict;
@@ -40,7 +40,7 @@ fn replay_codes(before: u32, board: Board, cells: &[u8], record: &[u8]) -> u32 {
 // What a record's letter asks of a code.
 fn ask(cells: &[u8], record: &[u8], code: u8) -> u32 {
     match byte_at(record, 0) {
-        b's' => renju_forbidden_strict(cells, code),
+        b's' | b'S' => renju_forbidden_strict(cells, code),
         _ => renju_forbidden(cells, code),
     }
 }
@@ -68,7 +68,7 @@ fn replay_point(t: u32, board: Board, record: &[u8], code: u8) -> u32 {
     }
     let word = word_at(record, code);
     match byte_at(record, 0) {
-        b's' => answer(t, verdict_word(forbidden_strict(board, code)) == word),
+        b's' | b'S' => answer(t, verdict_word(forbidden_strict(board, code)) == word),
         _ => replay_double(t, test_word(is_double_three(board, code)), word),
     }
 }

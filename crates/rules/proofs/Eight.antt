@@ -13,7 +13,7 @@ use Rattle.rules.specs.Numbers.{colourNo, isBlack, opponentOf, isNone}
 use Rattle.rules.specs.Line.{Stones, rowAt, span, through, among, isEye}
 use Rattle.rules.specs.Point.{lineNo, cellNo, lineSize, pointAt}
 use Rattle.rules.specs.Grid.{put, Starts, stoneAt, rowOn, eyeOn, rowsThrough}
-use Rattle.rules.specs.Forbidden.{Ask, someRow, moreThanOne, mayPlay, isReal, realThrees, withBlack}
+use Rattle.rules.specs.Forbidden.{Ask, someRow, moreThanOne, goodEye, isReal, realThrees, withBlack}
 use Rattle.rules.specs.Forbidden.{isOverline, isDoubleFour, isDoubleThree, plainWith}
 use Rattle.rules.specs.Forbidden.{completesFive, strictWith, nestedN}
 use Rattle.rules.specs.Views.{turn, undo}
@@ -278,9 +278,10 @@ unfolding isDoubleFour
 double-four-kept v A B p hv t hp u = more-carried (rowsThrough Black Sword A p) (rowsThrough Black Sword B (turn v p))
     (rows-carried Black Sword v A B p hv t hp) u
 
-may-kept : (ask : Ask Verdict) → Blind ask → Kept (mayPlay ask)
-unfolding mayPlay
-may-kept ask blind v A B p hv t hp u = subst⁻¹ (λ (x : Verdict). T (isNone x)) (blind v A B p hv t hp) u
+eye-kept : (ask : Ask Verdict) → Blind ask → Kept (goodEye ask)
+unfolding goodEye
+eye-kept ask blind v A B p hv t hp u =
+    rw (kept-eq completesFive five-kept v A B p hv t hp, blind v A B p hv t hp) u
 
 module _ (ask : Ask Verdict) (blind : Blind ask) (v : ℕ) (A B : List ℕ) (p : ℕ) (hv : v < 8) (t : Turned v A B) (hp : p < 225) where
   real-turn : (d j s : ℕ) → d < 4 → Moved (flips v d) (sizeAt d p) 4 j s → T (isReal ask A p d j)
@@ -290,20 +291,20 @@ module _ (ask : Ask Verdict) (blind : Blind ask) (v : ℕ) (A B : List ℕ) (p :
       let i = lineNo d p in
       let d′ = turnDir v d in
       let i′ = lineNo d′ (turn v p) in
-      let a = any-elim 16 (λ e. eyeOn Black Three A d i j e && mayPlay ask A (pointAt d i e)) u in
+      let a = any-elim 16 (λ e. eyeOn Black Three A d i j e && goodEye ask A (pointAt d i e)) u in
       let e = a .0 in
-      let ue = and-left (eyeOn Black Three A d i j e) (mayPlay ask A (pointAt d i e)) (a .2) in
+      let ue = and-left (eyeOn Black Three A d i j e) (goodEye ask A (pointAt d i e)) (a .2) in
       let he = eye-inside Black Three A d i j e ue in
       let z = move (flips v d) (lineSize d i) 1 e (omega arith) in
       let h = z .0 in
       let hh = moved-lt (flips v d) (lineSize d i) e h (z .1) he in
       let ep = turn-point v d p hv hd hp e h he (moved-matched (flips v d) (lineSize d i) e h (z .1)) in
-      any-intro 16 (λ e. eyeOn Black Three B d′ i′ s e && mayPlay ask B (pointAt d′ i′ e)) h (omega (arith, size-le d (lineNo d p), hh))
-      (and-intro (eyeOn Black Three B d′ i′ s h) (mayPlay ask B (pointAt d′ i′ h))
+      any-intro 16 (λ e. eyeOn Black Three B d′ i′ s e && goodEye ask B (pointAt d′ i′ e)) h (omega (arith, size-le d (lineNo d p), hh))
+      (and-intro (eyeOn Black Three B d′ i′ s h) (goodEye ask B (pointAt d′ i′ h))
       (eye-turn v A B p d hv t hp hd Black j s e h m (z .1) ue)
-      (subst⁻¹ (λ (x : ℕ). T (mayPlay ask B x)) ep
-      (may-kept ask blind v A B (pointAt d i e) hv t (point-lt d i e hd (line-here d p hd hp) he)
-      (and-right (eyeOn Black Three A d i j e) (mayPlay ask A (pointAt d i e)) (a .2)))))
+      (subst⁻¹ (λ (x : ℕ). T (goodEye ask B x)) ep
+      (eye-kept ask blind v A B (pointAt d i e) hv t (point-lt d i e hd (line-here d p hd hp) he)
+      (and-right (eyeOn Black Three A d i j e) (goodEye ask A (pointAt d i e)) (a .2)))))
 
   real-carried : Carried (realThrees ask A p) (realThrees ask B (turn v p))
   unfolding realThrees

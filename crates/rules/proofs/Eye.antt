@@ -12,7 +12,7 @@ use Rattle.rules.specs.Bit.{digit}
 use Rattle.rules.specs.Line.{Stones, count, scores, pairAt, noStone, openAt, rowAt, among, emptyAt, isEye}
 use Rattle.rules.specs.Point.{lineNo, lineSize, pointAt}
 use Rattle.rules.specs.Grid.{stoneAt, rowOn, eyeOn}
-use Rattle.rules.specs.Forbidden.{Ask, mayPlay, isReal}
+use Rattle.rules.specs.Forbidden.{Ask, goodEye, isReal}
 use Rattle.rules.specs.declared.Player.the-variants.{Black}
 use Rattle.rules.specs.declared.RowKind.the-variants.{Three}
 use Rattle.rules.specs.declared.Verdict.{Verdict}
@@ -132,18 +132,18 @@ module _ (black : Bool) (size : ℕ) (own other : Stones) (j : ℕ) (t : T (rowA
 
 pub real-at : (ask : Ask Verdict) (cells : List ℕ) (p d j e : ℕ) → T (rowOn Black Three cells d (lineNo d p) j)
     → T (eyeOn Black Three cells d (lineNo d p) j e) → e < 16
-    → isReal ask cells p d j ≡ mayPlay ask cells (pointAt d (lineNo d p) e)
+    → isReal ask cells p d j ≡ goodEye ask cells (pointAt d (lineNo d p) e)
 unfolding isReal rowOn eyeOn
 real-at ask cells p d j e t u he =
     let i = lineNo d p in
     let o = stoneAt Black cells d i in
     let w = stoneAt (opponentOf Black) cells d i in
-    let at : ℕ → Bool = λ e. isEye (lineSize d i) o w Three j e && mayPlay ask cells (pointAt d i e) in
-    both-ways (isReal ask cells p d j) (mayPlay ask cells (pointAt d i e))
+    let at : ℕ → Bool = λ e. isEye (lineSize d i) o w Three j e && goodEye ask cells (pointAt d i e) in
+    both-ways (isReal ask cells p d j) (goodEye ask cells (pointAt d i e))
     (λ x.
     let a = any-elim 16 at x in
     let q : a .0 ≡ e = eye-one (isBlack Black) (lineSize d i) o w j t (a .0) e
-    (and-left (isEye (lineSize d i) o w Three j (a .0)) (mayPlay ask cells (pointAt d i (a .0))) (a .2)) u in
-    subst (λ (x : ℕ). T (mayPlay ask cells (pointAt d i x))) q
-    (and-right (isEye (lineSize d i) o w Three j (a .0)) (mayPlay ask cells (pointAt d i (a .0))) (a .2)))
-    (λ x. any-intro 16 at e he (and-intro (isEye (lineSize d i) o w Three j e) (mayPlay ask cells (pointAt d i e)) u x))
+    (and-left (isEye (lineSize d i) o w Three j (a .0)) (goodEye ask cells (pointAt d i (a .0))) (a .2)) u in
+    subst (λ (x : ℕ). T (goodEye ask cells (pointAt d i x))) q
+    (and-right (isEye (lineSize d i) o w Three j (a .0)) (goodEye ask cells (pointAt d i (a .0))) (a .2)))
+    (λ x. any-intro 16 at e he (and-intro (isEye (lineSize d i) o w Three j e) (goodEye ask cells (pointAt d i e)) u x))

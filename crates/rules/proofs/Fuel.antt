@@ -1,7 +1,7 @@
 -- A question that asks itself, whatever its answers are: the number of empty points is deep enough. So the strict verdict answers its own
 -- question. Assumes nothing.
 use mathlib.Core.Path.{_≡_, refl, sym, subst, subst⁻¹, ap, _∙_}
-use mathlib.Core.Bool.{Bool, true, false, _&&_, cond}
+use mathlib.Core.Bool.{Bool, true, false, not, _&&_, cond}
 use mathlib.Core.List.{List}
 use Prim.Native.Nat.{ℕ, zero, suc, _≤_, _<_}
 use native.Mathlib.Omega.{arith}
@@ -10,7 +10,7 @@ use lib.ListN.{length, getD, length-set}
 use Rattle.rules.specs.Numbers.{isNone}
 use Rattle.rules.specs.Point.{lineNo, pointAt}
 use Rattle.rules.specs.Grid.{isEmpty, empties, rowsThrough, eyeOn}
-use Rattle.rules.specs.Forbidden.{Ask, moreThanOne, mayPlay, isReal, realThrees, withBlack}
+use Rattle.rules.specs.Forbidden.{Ask, moreThanOne, goodEye, isReal, realThrees, withBlack}
 use Rattle.rules.specs.Forbidden.{isOverline, isDoubleFour, isDoubleThree, plainWith}
 use Rattle.rules.specs.Forbidden.{completesFive, strictWith, nestedN, nestedOf, strictN, strictOf, plainOf}
 use Rattle.rules.specs.declared.Player.the-variants.{Black}
@@ -86,10 +86,10 @@ module _ {A : Type 0} (rest : A) (step : Ask A → Ask A) (nests : Nests rest st
       let x = fewer cells p l hp z in
       sym (nested-deep (empties cells) (withBlack cells p) e (length-set cells p 1 ∙ l) he (omega arith)))
 
--- whether Black may play there is told by the answer there
-pub may-same : (ask ask′ : Ask Verdict) (cells : List ℕ) (e : ℕ) → ask cells e ≡ ask′ cells e → mayPlay ask cells e ≡ mayPlay ask′ cells e
-unfolding mayPlay
-may-same ask ask′ cells e q = ap isNone q
+-- whether an eye is good is told by the board and by the answer there
+pub eye-same : (ask ask′ : Ask Verdict) (cells : List ℕ) (e : ℕ) → ask cells e ≡ ask′ cells e → goodEye ask cells e ≡ goodEye ask′ cells e
+unfolding goodEye
+eye-same ask ask′ cells e q = ap (λ (v : Verdict). not (completesFive cells e) && isNone v) q
 
 -- ---- the plain verdict asks only about the board with Black at p, at points of the board
 
@@ -98,13 +98,13 @@ module _ (cells : List ℕ) (p : ℕ) (hp : p < 225) (ask ask′ : Ask Verdict) 
   unfolding isReal
   real-same d j hd u =
       let i = lineNo d p in
-      let a = any-elim 16 (λ e. eyeOn Black Three cells d i j e && mayPlay ask cells (pointAt d i e)) u in
+      let a = any-elim 16 (λ e. eyeOn Black Three cells d i j e && goodEye ask cells (pointAt d i e)) u in
       let e = a .0 in
-      let hi = eye-inside Black Three cells d i j e (and-left (eyeOn Black Three cells d i j e) (mayPlay ask cells (pointAt d i e))
+      let hi = eye-inside Black Three cells d i j e (and-left (eyeOn Black Three cells d i j e) (goodEye ask cells (pointAt d i e))
       (a .2)) in
-      any-intro 16 (λ e. eyeOn Black Three cells d i j e && mayPlay ask′ cells (pointAt d i e)) e (a .1)
+      any-intro 16 (λ e. eyeOn Black Three cells d i j e && goodEye ask′ cells (pointAt d i e)) e (a .1)
       (subst (λ (b : Bool). T (eyeOn Black Three cells d i j e && b))
-      (may-same ask ask′ cells (pointAt d i e) (same (pointAt d i e) (point-lt d i e hd (line-here d p hd hp) hi))) (a .2))
+      (eye-same ask ask′ cells (pointAt d i e) (same (pointAt d i e) (point-lt d i e hd (line-here d p hd hp) hi))) (a .2))
 
   real-moves : (d j : ℕ) → d < 4 → T (realThrees ask cells p d j) → T (realThrees ask′ cells p d j)
   unfolding realThrees

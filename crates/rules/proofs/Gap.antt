@@ -1,21 +1,23 @@
--- The first cell of a Three's four that has no black stone is its eye. Assumes nothing.
-use mathlib.Core.Path.{_≡_, refl, subst, _∙_}
-use mathlib.Core.Bool.{Bool, true, false, cond}
+-- The first cell of a Three's four that has no black stone is its eye, and one look there tells whether it is real. Assumes nothing.
+use mathlib.Core.Path.{_≡_, refl, ap, ap₂, sym, subst, _∙_}
+use mathlib.Core.Bool.{Bool, true, false, not, _&&_, cond}
 use mathlib.Core.List.{List}
 use Prim.Native.Nat.{ℕ, _+_, _<_}
 use native.Mathlib.Nat.{add-zero}
 use native.Mathlib.Omega.{arith}
-use lib.Dec.{T}
-use Rattle.rules.specs.Numbers.{isBlack}
-use Rattle.rules.specs.Line.{Stones, rowAt, isEye}
+use lib.Dec.{T, ltb}
+use lib.ListN.{getD}
+use Rattle.rules.specs.Numbers.{isBlack, isNone}
+use Rattle.rules.specs.Line.{Stones, noStone, rowAt, among, emptyAt, isEye}
 use Rattle.rules.specs.Point.{lineNo, lineSize}
-use Rattle.rules.specs.Grid.{stoneAt, rowOn, eyeOn, rowsThrough}
-use Rattle.rules.specs.Forbidden.{Ask, mayPlay, isReal, gapFrom, eyeOf}
+use Rattle.rules.specs.Grid.{isEmpty, stoneAt, rowOn, eyeOn, rowsThrough}
+use Rattle.rules.specs.Forbidden.{Ask, completesFive, goodEye, isReal, gapFrom, eyeOf}
 use Rattle.rules.specs.declared.Player.the-variants.{Black, White}
 use Rattle.rules.specs.declared.RowKind.the-variants.{Three}
 use Rattle.rules.specs.declared.Verdict.{Verdict}
+use Rattle.rules.proofs.Logic.{T-true, along, and-right}
 use Rattle.rules.proofs.Address.{size-le, line-here, point-lt}
-use Rattle.rules.proofs.Rows.{through-row, eye-inside}
+use Rattle.rules.proofs.Rows.{stone-in, through-row, eye-inside}
 use Rattle.rules.proofs.Eye.{firstGap, eye-some, eye-first, real-at}
 
 gap-is : (own : Stones) (j : ℕ) → j + firstGap (own j) (own (j + 1)) (own (j + 2)) ≡ gapFrom own j
@@ -49,13 +51,35 @@ module _ (cells : List ℕ) (p d j : ℕ) (hp : p < 225) (hd : d < 4) (t : T (ro
   pub gap-inside : gapFrom (stoneAt Black cells d (lineNo d p)) j < lineSize d (lineNo d p)
   gap-inside = eye-inside Black Three cells d (lineNo d p) j cell eye-on
 
+  -- no stone stands there
+  pub eye-free : isEmpty (getD cells (eyeOf cells p d j) 0) ≡ true
+  unfolding eyeOf eyeOn isEye emptyAt noStone
+  eye-free =
+      let i = lineNo d p in
+      let own = stoneAt Black cells d i in
+      let other = stoneAt White cells d i in
+      let free = not (own cell) && not (other cell) in
+      T-true (along
+      (ap₂ (λ (a b : Bool). not a && not b) (stone-in Black cells d i cell gap-inside) (stone-in White cells d i cell gap-inside))
+      (and-right (ltb cell (lineSize d i)) free (and-right (among 4 j cell) (ltb cell (lineSize d i) && free) eye-on)))
+
   pub eye-lt : eyeOf cells p d j < 225
   unfolding eyeOf
   eye-lt = point-lt d (lineNo d p) cell hd (line-here d p hd hp) gap-inside
 
-  -- it is real where Black may play at its eye
-  pub real-eye : (ask : Ask Verdict) → isReal ask cells p d j ≡ mayPlay ask cells (eyeOf cells p d j)
+  -- it is real where its eye is good
+  pub real-eye : (ask : Ask Verdict) → isReal ask cells p d j ≡ goodEye ask cells (eyeOf cells p d j)
   unfolding eyeOf
   real-eye ask =
       real-at ask cells p d j cell (through-row Black Three cells p d j t) eye-on
       (let h = gap-inside in let s = size-le d (lineNo d p) in omega arith)
+
+  -- .. so it is told by one look at its eye: where that completes a five it is not real, else by the answer there
+  module _ (ask : Ask Verdict) {e : ℕ} (at : e ≡ eyeOf cells p d j) where
+    pub five-not-real : completesFive cells e ≡ true → false ≡ isReal ask cells p d j
+    unfolding goodEye
+    five-not-real f = sym (real-eye ask ∙ ap (goodEye ask cells) (sym at) ∙ rw f refl)
+
+    pub real-told : completesFive cells e ≡ false → {v : Verdict} → v ≡ ask cells e → isNone v ≡ isReal ask cells p d j
+    unfolding goodEye
+    real-told f ev = sym (real-eye ask ∙ ap (goodEye ask cells) (sym at) ∙ rw (f, sym ev) refl)

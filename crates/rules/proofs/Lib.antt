@@ -36,9 +36,9 @@ pub mod Starts
 pub mod Numbered
 -- the stones of the line through a point, read off the cells one by one
 pub mod Along
--- a Three has exactly one eye, and is real where Black may play there
+-- a Three has exactly one eye, and is real where that is good: no five, and the strict verdict none
 pub mod Eye
--- that eye is the first of its four cells without a black stone
+-- that eye is the first of its four cells without a black stone; one look there tells whether the Three is real
 pub mod Gap
 -- the Twos through an empty point are the Threes through it once the player plays there, and the Fours are the Fives
 pub mod Grown
@@ -56,5 +56,5 @@ pub mod Eight
 pub mod Views
 -- what a five is, for Black and for White; the Fours before the stone tell it; it is the same in all eight views
 pub mod Fives
--- C1 to C12
+-- C1 to C12; beside them the boards that section 9 and document 02, No. 6, turn
 pub mod Cases

@@ -1,15 +1,16 @@
 -- Section 8: the table of cases C1 to C12, each as a test. proofs/Cases.antt proves that all pass.
-use mathlib.Core.Bool.{Bool, true, false, _&&_, cond}
+use mathlib.Core.Bool.{Bool, true, false, not, _&&_, cond}
 use mathlib.Core.List.{List, [], _∷_}
 use Prim.Native.Nat.{ℕ, _-_}
 use lib.Dec.{eqb}
-use lib.ListN.{replicate}
-use Rattle.rules.specs.Numbers.{isBlack, verdictNo}
-use Rattle.rules.specs.Tools.{gather, only}
+use lib.ListN.{getD, replicate}
+use Rattle.rules.specs.Numbers.{isBlack, verdictNo, isNone}
+use Rattle.rules.specs.Tools.{anyBelow, gather, only}
 use Rattle.rules.specs.Line.{rowAt, eyeOfSome}
-use Rattle.rules.specs.Point.{codeOf}
-use Rattle.rules.specs.Grid.{put}
-use Rattle.rules.specs.Forbidden.{strictOf, plainOf}
+use Rattle.rules.specs.Point.{codeOf, lineNo, pointAt}
+use Rattle.rules.specs.Grid.{isEmpty, put, Starts, eyeOn, rowsThrough}
+use Rattle.rules.specs.Forbidden.{moreThanOne, Ask, withBlack, completesFive, isOverline, isDoubleFour, moreTwos, firstKind}
+use Rattle.rules.specs.Forbidden.{nestedOf, strictOf, plainOf}
 use Rattle.rules.specs.declared.Player.{Player}
 use Rattle.rules.specs.declared.Player.the-variants.{Black, White}
 use Rattle.rules.specs.declared.RowKind.{RowKind}
@@ -81,11 +82,14 @@ putAll r (p ∷ ps) cells = putAll r ps (put r cells p)
 abbrev pub caseBoard : List ℕ → List ℕ → List ℕ
 caseBoard blacks whites = putAll White whites (putAll Black blacks (replicate 225 0))
 
+abbrev pub verdictIs : Verdict → Verdict → Bool
+verdictIs expected v = eqb (verdictNo v) (verdictNo expected)
+
 abbrev pub strictIs : List ℕ → List ℕ → ℕ → Verdict → Bool
-strictIs blacks whites p v = eqb (verdictNo (strictOf (caseBoard blacks whites) p)) (verdictNo v)
+strictIs blacks whites p v = verdictIs v (strictOf (caseBoard blacks whites) p)
 
 abbrev pub plainIs : List ℕ → List ℕ → ℕ → Verdict → Bool
-plainIs blacks whites p v = eqb (verdictNo (plainOf (caseBoard blacks whites) p)) (verdictNo v)
+plainIs blacks whites p v = verdictIs v (plainOf (caseBoard blacks whites) p)
 
 -- ---- the table
 
@@ -130,3 +134,36 @@ cases =
 -- double four with it, so that Three is not real and one is left: none.
 unfoldable pub stoneIsOn : Bool
 stoneIsOn = strictIs (G 8 ∷ J 8 ∷ H 5 ∷ H 7 ∷ I 9 ∷ I 10 ∷ I 11 ∷ []) (I 12 ∷ []) (H 8) None
+
+-- ---- beside the table: document 01's own rule and document 02's No. 6
+
+-- "A Three is real when the strict verdict at its one eye, on that board, is none": the Threes through p of which document 01 says that
+abbrev pub realBefore : Ask Verdict → List ℕ → ℕ → Starts
+realBefore ask cells p d j =
+    rowsThrough Black Three cells p d j
+    && anyBelow 16 (λ e. eyeOn Black Three cells d (lineNo d p) j e && isNone (ask cells (pointAt d (lineNo d p) e)))
+
+-- the strict verdict of document 01 alone, at every level: all but the real Three is as it is in Forbidden
+unfoldable pub strictBefore : Ask Verdict
+strictBefore =
+    nestedOf None
+        (λ (ask : Ask Verdict) (cells : List ℕ) (p : ℕ).
+            cond (isEmpty (getD cells p 0) && not (completesFive cells p))
+                (firstKind (isOverline cells p) (isDoubleFour cells p)
+                    (moreTwos cells p && moreThanOne (realBefore ask (withBlack cells p) p)))
+                None)
+
+-- by document 01 alone the verdict at p is the first, by No. 6 the second
+abbrev pub beforeAndNow : List ℕ → ℕ → Verdict → Verdict → Bool
+beforeAndNow blacks p before now = verdictIs before (strictBefore (caseBoard blacks []) p) && strictIs blacks [] p now
+
+-- F7, the eye of the Three F6 F8 F9, completes the five D5 to H9. By document 01 that Three is real, and with the Three E6 F6 H6 there are
+-- two; by No. 6 it is not, and one is left.
+--
+-- One question deeper the answer turns the other way: the Three F6 G6 I6 has the eye H6. Of the two Threes through H6, G5 H6 J8 has the eye
+-- I7, which completes the five I5 to I9, so that by No. 6 H6 is no double three. So F6 G6 I6 is real, and with G5 G6 G7 there are two.
+unfoldable pub eyeIsNoFive : List Bool
+eyeIsNoFive =
+    beforeAndNow (D 5 ∷ E 6 ∷ F 8 ∷ F 9 ∷ G 8 ∷ H 6 ∷ H 9 ∷ []) (F 6) DoubleThree None
+    ∷ beforeAndNow (F 6 ∷ G 5 ∷ G 7 ∷ I 5 ∷ I 6 ∷ I 8 ∷ I 9 ∷ J 8 ∷ []) (G 6) None DoubleThree
+    ∷ []

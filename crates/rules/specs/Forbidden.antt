@@ -1,4 +1,4 @@
--- Section 5: the referee. The quoted sentences are document 01's.
+-- Section 5, with document 02's No. 6: the referee. The quoted sentences are document 01's where no other is named.
 use mathlib.Core.Bool.{Bool, not, _&&_, _||_, cond}
 use mathlib.Core.List.{List, [], _∷_}
 use Prim.Native.Nat.{ℕ, zero, suc, _+_}
@@ -48,15 +48,22 @@ Ask A = List ℕ → ℕ → A
 abbrev pub withBlack : List ℕ → ℕ → List ℕ
 withBlack cells p = put Black cells p
 
--- May Black play there? "the strict verdict .. is none": so an eye that completes a five "counts as playable".
-unfoldable pub mayPlay : Ask Verdict → List ℕ → ℕ → Bool
-mayPlay ask cells p = isNone (ask cells p)
+-- "a black Four goes through p (p completes a five)"
+unfoldable pub completesFive : List ℕ → ℕ → Bool
+completesFive cells p = someRow (rowsThrough Black Four cells p)
 
--- "A Three is real when the strict verdict at its one eye, on that board, is none." The Three stands at start j of the line through p;
--- it has one eye (proofs/Eye.antt).
+-- Is nothing against the stone that makes a Three a straight four? "its eye completes no black five on that board and the strict verdict
+-- there is none" (document 02, No. 6). At a point that completes a five the strict verdict is none by itself, so the first test is
+-- what says no.
+unfoldable pub goodEye : Ask Verdict → List ℕ → ℕ → Bool
+goodEye ask cells e = not (completesFive cells e) && isNone (ask cells e)
+
+-- "a Three is real when its eye completes no black five on that board and the strict verdict there is none, at every level of nesting"
+-- (document 02, No. 6; document 01 asked for the verdict alone). The Three stands at start j of the line through p; it has one eye
+-- (proofs/Eye.antt).
 unfoldable pub isReal : Ask Verdict → List ℕ → ℕ → Starts
 isReal ask cells p d j =
-    anyBelow 16 (λ e. eyeOn Black Three cells d (lineNo d p) j e && mayPlay ask cells (pointAt d (lineNo d p) e))
+    anyBelow 16 (λ e. eyeOn Black Three cells d (lineNo d p) j e && goodEye ask cells (pointAt d (lineNo d p) e))
 
 -- the first of the cells j to j + 2 that has no stone, else j + 3: of a Three at start j this is its one eye (proofs/Gap.antt)
 unfoldable pub gapFrom : Stones → ℕ → ℕ
@@ -108,10 +115,6 @@ firstKind o f t = cond o Overline (cond f DoubleFour (cond t DoubleThree None))
 -- "The plain verdict at an empty p, first that applies"
 unfoldable pub plainWith : Ask Verdict → Ask Verdict
 plainWith ask cells p = firstKind (isOverline cells p) (isDoubleFour cells p) (isDoubleThree ask cells p)
-
--- "a black Four goes through p (p completes a five)"
-unfoldable pub completesFive : List ℕ → ℕ → Bool
-completesFive cells p = someRow (rowsThrough Black Four cells p)
 
 -- "The strict verdict is none at an occupied point or where a black Four goes through p (p completes a five); otherwise it is the plain
 -- one."

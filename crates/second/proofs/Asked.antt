@@ -7,7 +7,7 @@ use native.Mathlib.Omega.{arith}
 use lib.Dec.{leb}
 use lib.ListN.{getD, set}
 use lib.Seq.{set-set, set-getD}
-use borrow.Author.Tests.{le-leb, lt-leb, eq-eqb, ne-eqb}
+use borrow.Author.Tests.{le-leb, lt-leb, eqb-true, eq-eqb, ne-eqb}
 use Rattle.rules.specs.Grid.{isEmpty, empties, Starts, rowsThrough}
 use Rattle.rules.specs.Forbidden.{someRow, moreThanOne, withBlack, completesFive, strictOf, plainOf}
 use Rattle.rules.specs.declared.Player.the-variants.{Black}
@@ -39,9 +39,24 @@ module _ (s : Starts) {n : ℕ} (is : n ≡ rowCount s) where
   pub more-false : n < 2 → moreThanOne s ≡ false
   more-false h = sym more-is ∙ lt-leb 2 n h
 
+-- .. of the Fours
+module _ (cells : List ℕ) (p : ℕ) {n : ℕ} (is : n ≡ rowCount (rowsThrough Black Four cells p)) where
+  five-is : leb 1 n ≡ completesFive cells p
+  unfolding completesFive
+  five-is = ap (leb 1) is ∙ count-some (rowsThrough Black Four cells p)
+
+  pub five-true : 1 ≤ n → completesFive cells p ≡ true
+  five-true h = sym five-is ∙ le-leb 1 n h
+
+  pub five-false : n < 1 → completesFive cells p ≡ false
+  five-false h = sym five-is ∙ lt-leb 1 n h
+
 -- ---- one question at p
 
 module _ (cells : List ℕ) (p : ℕ) (ok : Cells cells) (hp : p < 225) where
+  pub zero-there : isEmpty (getD cells p 0) ≡ true → getD cells p 0 ≡ 0
+  zero-there e = eqb-true (getD cells p 0) 0 (empty-value cells ok p hp ∙ e)
+
   pub asked-taken : (getD cells p 0 ≡ 0 → ⊥) → None ≡ strictOf cells p
   asked-taken n = strict-taken cells p (ok .long) hp (sym (empty-value cells ok p hp) ∙ ne-eqb (getD cells p 0) 0 n)
 
@@ -50,15 +65,11 @@ module _ (cells : List ℕ) (p : ℕ) (ok : Cells cells) (hp : p < 225) where
     none-there = sym (empty-value cells ok p hp) ∙ eq-eqb (getD cells p 0) 0 z
 
     module _ {n : ℕ} (is : n ≡ rowCount (rowsThrough Black Four cells p)) where
-      five-is : leb 1 n ≡ completesFive cells p
-      unfolding completesFive
-      five-is = ap (leb 1) is ∙ count-some (rowsThrough Black Four cells p)
-
       pub asked-five : 1 ≤ n → None ≡ strictOf cells p
-      asked-five h = rw (le-leb 1 n h) at (strict-free cells p (ok .long) hp none-there five-is)
+      asked-five h = rw (le-leb 1 n h) at (strict-free cells p (ok .long) hp none-there (five-is cells p is))
 
       pub asked-plain : n < 1 → plainOf cells p ≡ strictOf cells p
-      asked-plain h = rw (lt-leb 1 n h) at (strict-free cells p (ok .long) hp none-there five-is)
+      asked-plain h = rw (lt-leb 1 n h) at (strict-free cells p (ok .long) hp none-there (five-is cells p is))
 
     -- ---- the trial stone
 

@@ -1,4 +1,4 @@
-// The second referee: slow, and written to be read beside document 01. It keeps a board of 225 cells and nothing else, and walks its lines
+// The second referee: slow, and written to be read beside document 01 (and document 02, No. 6). It keeps a board of 225 cells and nothing else, and walks its lines
 // cell by cell. It answers for cell bytes: rows, four eyes, plain and strict verdict, the forbidden list.
 //
 // Read `line` first, then `window` and `row` (section 4), `count` ("more than one"), `eye` and `verdict` (section 5); then `board`, `key`,

@@ -1,5 +1,6 @@
 // Section 5: the referee. "The strict question asks the plain one, which asks the strict one; each turn has one empty point fewer." All of
-// them work on one board: the trial stone is one cell written, and written back. The quoted sentences are document 01's.
+// them work on one board: the trial stone is one cell written, and written back. The quoted sentences are document 01's where no other is
+// named.
 use super::count::count_rows;
 use super::count::first_start;
 use super::eye::eye_of;
@@ -10,7 +11,10 @@ use rules::Verdict;
 ghost use mathlib.Core.Path.{_≡_};
 ghost use Prim.Native.Nat.{_<_};
 ghost use lib.ListN.{getD};
+ghost use Rattle.rules.specs.Grid.{rowsThrough};
 ghost use Rattle.rules.specs.Forbidden.{strictOf, plainOf, isDoubleThree, realThrees};
+ghost use Rattle.rules.specs.declared.Player.the-variants.{Black};
+ghost use Rattle.rules.specs.declared.RowKind.the-variants.{Four};
 ghost use Rattle.cells.specs.Cells.{Cells};
 ghost use Rattle.second.specs.Count.{rowsAlong, rowCount};
 
@@ -23,7 +27,17 @@ pub(crate) fn strict(board: &mut [u8; 225], code: u8) -> Verdict
     if board[code as usize] != 0 {
         return Verdict::None;
     }
-    if count_rows(board, code, RowKind::Four) >= 1 {
+    let fours = count_rows(board, code, RowKind::Four);
+    strict_by(board, code, fours)
+}
+
+// .. at an empty point, by the count of the Fours through it.
+fn strict_by(board: &mut [u8; 225], code: u8, fours: u8) -> Verdict
+    requires { ⌜ Cells (now board) × (code < 225) × (getD (now board) code 0 ≡ 0)
+        × (fours ≡ rowCount (rowsThrough Black Four (now board) code)) ⌝ }
+    ensures { λ r. ⌜ (r ≡ strictOf (now (board .entry)) code) × (now (board .exit) ≡ now (board .entry)) ⌝ }
+{
+    if fours >= 1 {
         return Verdict::None;
     }
     plain(board, code)
@@ -93,8 +107,8 @@ fn count_real_along(board: &mut [u8; 225], d: u8, code: u8) -> u8
     if first < 16 { 1 } else { 0 }
 }
 
-// Whether a real Three through the point starts at cell j. "A Three is real when the strict verdict at its one eye, on that board, is
-// none."
+// Whether a real Three through the point starts at cell j. "a Three is real when its eye completes no black five on that board and the
+// strict verdict there is none, at every level of nesting" (document 02, No. 6). The Fours through the eye are counted once, for both.
 fn is_real(board: &mut [u8; 225], d: u8, code: u8, j: u8) -> bool
     requires { ⌜ Cells (now board) × (d < 4) × (code < 225) × (j < 16) ⌝ }
     ensures { λ r. ⌜ (r ≡ realThrees strictOf (now (board .entry)) code d j) × (now (board .exit) ≡ now (board .entry)) ⌝ }
@@ -103,5 +117,9 @@ fn is_real(board: &mut [u8; 225], d: u8, code: u8, j: u8) -> bool
         return false;
     }
     let eye = eye_of(board, d, code, j);
-    strict(board, eye).is_none()
+    let fours = count_rows(board, eye, RowKind::Four);
+    if fours >= 1 {
+        return false;
+    }
+    strict_by(board, eye, fours).is_none()
 }

@@ -25,7 +25,8 @@ const FRAME: Duration = Duration::from_nanos(1_000_000_000 / FRAMES_A_SECOND as 
 /// The player moves once in so many frames.
 const FRAMES_A_MOVE: u32 = 3;
 
-/// The game that is played, by its seed, and how long it may be: four seconds see all of it.
+/// The game that is played, by its seed, and how long it may be: four seconds see all of it. None of
+/// its boards meets an eye that completes a five, so the two name the same points by request 6 too.
 const GAME: u64 = 3791;
 const MOVES: usize = 80;
 

@@ -9,7 +9,9 @@
 //! a byte that is written where none should be is seen.
 //!
 //! Texts that request 5 of document 02 speaks of are left out of the comparison with the original,
-//! by `oracle::left_out`. They are held to the naive reading, and counted.
+//! by `oracle::left_out`, and so are verdicts, lists and games that meet an eye that completes a five
+//! (request 6). They are held to the naive reading, and counted. Every verdict and list is asked of
+//! the naive reading; where nothing is left out it must answer as the original does.
 //!
 //! What the fast referee is asked about rows and verdicts, the second referee is asked right after
 //! it: a comparison of its own, held to the same answer.

@@ -1,10 +1,12 @@
-//! A whole game read by the original: its board, its verdicts and its rows of five, move by move.
+//! A whole game read by the original: its board, its verdicts and its rows of five, move by move;
+//! the verdicts may be those of request 6.
 
 use oracle::board::board::Board;
 use oracle::board::row::RowKind;
+use oracle::left_out;
 use oracle::original::{player, point, to_cells};
 
-/// What the original's answers make of a game.
+/// What a reading makes of a game.
 pub struct Reading {
     /// The number of the first faulty move, from 1, or 0.
     pub number: u8,
@@ -21,12 +23,31 @@ pub fn mover(place: usize) -> u8 {
     1 + (place % 2) as u8
 }
 
-/// Reads at most 225 codes below 225.
+/// Reads at most 225 codes below 225, by the original's own verdicts.
 pub fn read(moves: &[u8]) -> Reading {
+    read_by(moves, |board, code| {
+        board.forbidden_strict(point(code)).is_some()
+    })
+}
+
+/// Reads them by the verdicts that a port is held to, and says whether one of these is left out of
+/// the comparison with the original.
+pub fn read_held(moves: &[u8]) -> (Reading, bool) {
+    let mut is_left_out = false;
+    let reading = read_by(moves, |board, code| {
+        let held = left_out::strict(&to_cells(board), board, code);
+        is_left_out |= held.left_out;
+        held.answer != 0
+    });
+    (reading, is_left_out)
+}
+
+/// Reads them by what says whether a move of Black's is forbidden on a board.
+fn read_by(moves: &[u8], mut is_forbidden: impl FnMut(&Board, u8) -> bool) -> Reading {
     let (mut board, mut winner) = (Board::new(), 0);
     for (place, &code) in moves.iter().enumerate() {
         let colour = mover(place);
-        let reason = reason(&board, code, colour, winner);
+        let reason = reason(&board, code, colour, winner, &mut is_forbidden);
         if reason != 0 {
             return Reading {
                 number: place as u8 + 1,
@@ -50,10 +71,16 @@ pub fn read(moves: &[u8]) -> Reading {
 }
 
 /// The first reason that applies to a move, 0 for none.
-fn reason(board: &Board, code: u8, colour: u8, winner: u8) -> u8 {
+fn reason(
+    board: &Board,
+    code: u8,
+    colour: u8,
+    winner: u8,
+    is_forbidden: &mut impl FnMut(&Board, u8) -> bool,
+) -> u8 {
     if board.stone(point(code)).is_some() {
         1
-    } else if colour == 1 && board.forbidden_strict(point(code)).is_some() {
+    } else if colour == 1 && is_forbidden(board, code) {
         2
     } else if winner != 0 {
         3

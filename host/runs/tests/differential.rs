@@ -72,9 +72,14 @@ fn ours_has_no_difference_and_every_refusal_is_met() {
         assert!(count.comparisons > refused, "{name} answers too");
     }
     assert_both_asked(&tally);
-    // Some texts are left out of the comparison with the original, most are not.
-    let read = tally.counts[Call::Read.number()].comparisons;
-    assert!((1..read / 4).contains(&tally.left_out), "{read} read");
+    // Some of each are left out of the comparison with the original, most are not.
+    let asked = |call: Call| tally.counts[call.number()].comparisons;
+    let verdicts = asked(Call::Fast(Question::ForbiddenStrict { code: 0 }));
+    let lists = asked(Call::Fast(Question::ForbiddenPoints));
+    let [read, games] = [Call::Read, Call::Game].map(asked);
+    for (left_out, of) in tally.left_out.iter().zip([read, verdicts, lists, games]) {
+        assert!((1..of / 3).contains(left_out), "{left_out} of {of}");
+    }
 }
 
 /// The second referee's functions are counted under their own names, and asked what the fast one's
@@ -270,6 +275,26 @@ fn the_old_reading_of_texts_is_found() {
     assert_eq!(found.got.word, 225);
     // Two points, what parts them, and a second slash or a plus sign.
     assert_eq!(found.size(), (6, 6));
+}
+
+/// The original's own verdicts, where request 6 answers otherwise.
+#[test]
+fn the_old_rule_is_found() {
+    let wrong = |call: &Call, given: &[u8], lent: &mut Lent| {
+        let word = ask(call, given, lent);
+        match call {
+            Call::Fast(Question::ForbiddenStrict { code }) if word < 4 => {
+                let cells = given.try_into().expect("225 cells");
+                original::strict(&original::to_board(cells), *code).into()
+            }
+            _ => word,
+        }
+    };
+    let found = only_difference(&wrong);
+    let words = (found.expected.word, found.got.word);
+    assert!([(0, 1), (1, 0)].contains(&words), "{words:?}");
+    // A Three whose eye is the fifth point of four stones, and a second Three that shares one.
+    assert!((7..=8).contains(&found.size().0), "{:?}", found.size());
 }
 
 #[test]

@@ -5,9 +5,9 @@ use std::process::{Command, Output};
 use std::time::{Duration, Instant};
 
 use oracle::boards::{self, Dice};
-use oracle::{naive, original};
+use oracle::{left_out, naive, original};
 use renju::Cells;
-use runs::reading::read;
+use runs::reading::{read, read_held};
 use runs::timing::games::{self, Games};
 use runs::timing::race::{self, Pace, Race, Times};
 use runs::timing::rows::{Changes, Form, Lists, Other, Texts, Verdicts};
@@ -98,7 +98,8 @@ fn a_picture_has_a_cross_for_each_of_the_list() {
         let crosses = cells.forbidden_points();
         let text = picture::svg(&cells, &crosses, "");
         assert_eq!(text.matches("class=\"cross\"").count(), crosses.len());
-        let list = original::forbidden_list(&original::to_board(cells.as_bytes()));
+        let board = original::to_board(cells.as_bytes());
+        let list = left_out::forbidden_list(cells.as_bytes(), &board).answer;
         assert_eq!(crosses.len(), list.len());
         for cross in &crosses {
             assert!(text.contains(&format!("<title>{cross}</title>")), "{cross}");
@@ -290,8 +291,9 @@ fn the_games_are_read_to_their_end() {
     for length in games::LENGTHS {
         let made = games::games(7, length, 2);
         for moves in &made {
-            let reading = read(moves);
+            let (reading, is_left_out) = read_held(moves);
             assert_eq!((moves.len(), reading.number), (length, 0));
+            assert_eq!((read(moves).number, is_left_out), (0, false));
         }
         let mut race = Games::new(made);
         assert!(race.agrees(0) && race.agrees(1));

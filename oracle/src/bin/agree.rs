@@ -33,6 +33,11 @@ fn print_result(tally: &Tally) {
         "of these {} with nesting of 4 or more, {} forbidden points",
         tally.deep, tally.forbidden
     );
+    let left_out = &tally.left_out;
+    println!(
+        "left out by request 6: verdicts {}, lists {}; of these answered otherwise: verdicts {}, lists {}",
+        left_out.verdicts, left_out.lists, left_out.other_verdicts, left_out.other_lists
+    );
     println!(
         "boards {}, comparisons {}, differences {}",
         tally.boards, tally.comparisons, tally.differences

@@ -1,11 +1,11 @@
 //! Lists the text on standard input by the original: `listings`. Runs another
 //! program on N texts and holds what it writes to that: `listings PROGRAM N
-//! SEED`. Texts that are left out of the comparison with the original are
-//! counted, and read by the naive reading.
+//! SEED`. Texts and lists that are left out of the comparison with the original
+//! are counted, and held to the naive reading.
 
 use oracle::boards::Dice;
 use oracle::left_out;
-use oracle::listing::{listing, text};
+use oracle::listing::{list_is_left_out, listing, text};
 use std::io::{Read, Write, stdin};
 use std::process::{Command, ExitCode, Stdio};
 
@@ -39,7 +39,7 @@ fn list_input() -> ExitCode {
 fn compare(program: &str, count: u64, seed: u64) -> ExitCode {
     let mut dice = Dice::new(seed);
     let (mut refused, mut lines, mut differences) = (0, 0, 0);
-    let mut left_out = 0;
+    let (mut texts, mut lists) = (0, 0);
     for _ in 0..count {
         let bytes = text(&mut dice);
         let expected = listing(&bytes);
@@ -51,7 +51,8 @@ fn compare(program: &str, count: u64, seed: u64) -> ExitCode {
             }
         };
         refused += u64::from(expected.starts_with("refused"));
-        left_out += u64::from(left_out::text(&bytes));
+        texts += u64::from(left_out::text(&bytes));
+        lists += u64::from(list_is_left_out(&bytes));
         lines += expected.lines().count();
         if written != expected.as_bytes() {
             differences += 1;
@@ -63,7 +64,9 @@ fn compare(program: &str, count: u64, seed: u64) -> ExitCode {
         }
     }
     println!("texts {count}, of these {refused} refused, lines {lines}, differences {differences}");
-    println!("left out of the comparison with the original, by request 5: texts {left_out}");
+    println!(
+        "left out of the comparison with the original, by request 5: texts {texts}, by request 6: lists {lists}"
+    );
     ExitCode::from(u8::from(differences > 0))
 }
 

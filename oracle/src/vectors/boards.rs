@@ -121,16 +121,41 @@ fn block(out: &mut Records, cells: &Cells, extent: Extent, dice: &mut Dice) {
 }
 
 fn verdicts(out: &mut Records, cells: &Cells, board: &Board) {
-    let strict = |p: u8| original::strict(board, p).to_string();
-    let plain = |p: u8| match cells[p as usize] {
-        0 => original::plain(board, p).to_string(),
-        _ => "-".into(),
+    let each = |verdict: &dyn Fn(usize) -> u8| -> String {
+        (0..225).map(|p| verdict(p).to_string()).collect()
     };
-    out.record('s', &[(0..225).map(strict).collect()]);
-    out.record('p', &[(0..225).map(plain).collect()]);
-    let pairs = original::forbidden_list(board);
-    let bytes: Vec<u8> = pairs.into_iter().flat_map(|(k, p)| [k, p]).collect();
-    out.record('f', &[list(&bytes)]);
+    let ours = each(&|p| naive::strict(cells, p).verdict);
+    let theirs = each(&|p| original::strict(board, p as u8));
+    one_or_both(out, 's', ours, theirs);
+    let each_empty = |verdict: &dyn Fn(usize) -> u8| -> String {
+        let at = |p: usize| match cells[p] {
+            0 => verdict(p).to_string(),
+            _ => "-".into(),
+        };
+        (0..225).map(at).collect()
+    };
+    let ours = each_empty(&|p| naive::plain(cells, p).verdict);
+    let theirs = each_empty(&|p| original::plain(board, p as u8));
+    one_or_both(out, 'p', ours, theirs);
+    let pairs = |pairs: Vec<(u8, u8)>| {
+        let bytes: Vec<u8> = pairs.into_iter().flat_map(|(k, p)| [k, p]).collect();
+        list(&bytes)
+    };
+    let (ours, theirs) = (
+        naive::forbidden_list(cells),
+        original::forbidden_list(board),
+    );
+    one_or_both(out, 'f', pairs(ours), pairs(theirs));
+}
+
+/// The original's answer; where request 6 answers otherwise both, the request's
+/// first, under the capital letter.
+fn one_or_both(out: &mut Records, letter: char, ours: String, theirs: String) {
+    if ours == theirs {
+        out.record(letter, &[theirs]);
+    } else {
+        out.record(letter.to_ascii_uppercase(), &[ours, theirs]);
+    }
 }
 
 fn rows(out: &mut Records, board: &Board) {

@@ -31,6 +31,11 @@ No line but a text is over 4,200 bytes.
 - `p VERDICTS` 225 characters, the plain verdict at every empty code, `-` at
   an occupied one.
 - `f LIST` the forbidden list, two bytes each: kind, code.
+- `S VERDICTS VERDICTS`, `P VERDICTS VERDICTS`, `F LIST LIST` stand in the
+  place of `s`, `p` and `f` where request 6 of document 02 answers otherwise
+  than the original (the eye of a Three completes a five). The first field is
+  the answer of the naive reading, `oracle/src/naive.rs`, the second that of the
+  original. The first is replayed.
 - `k C LIST` the stones of colour C.
 - `m LIST` the empty points.
 - `r C K LIST` the rows of colour C and kind K on the board.
@@ -86,8 +91,9 @@ pub fn text(files: &[(&'static str, String)]) -> String {
     out.push_str(
         "Answers of the original, `src/board` of renju-note/quintet at commit\n\
          8219b71be2, to questions about boards, lines, texts and addresses. They are\n\
-         replayed to see that a port answers the same. The records `T` and `L` of\n\
-         texts.txt alone are not the original's.\n\n",
+         replayed to see that a port answers the same. Only the records `T` and `L` of\n\
+         texts.txt are not the original's, and `S`, `P` and `F` of boards.txt show two\n\
+         answers.\n\n",
     );
     writeln!(
         out,

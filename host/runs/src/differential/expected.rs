@@ -1,19 +1,32 @@
-//! What a call must answer: refusals by section 2 of document 01, values by the original; texts
-//! that are left out of the comparison with it by the naive reading.
+//! What a call must answer: refusals by section 2 of document 01, values by the original; what is
+//! left out of the comparison with it by the naive reading. Verdicts and lists are asked of the
+//! naive reading too where they are not left out.
 
 use super::call::{Call, Given, Question};
 use super::games;
 use oracle::board::board::Board;
+use oracle::left_out::{self, Held};
+use oracle::naive;
 use oracle::original::{self, Cells, KINDS, player, point, to_cells, to_line};
-use oracle::{left_out, naive};
 
 /// The low half of the word and the bytes written, or the refusal. Whether the bytes have room,
 /// refusal 13, is for the caller to see: it comes after all the others.
 pub type Expected = Result<(u16, Vec<u8>), u8>;
 
-pub fn expected(call: &Call, given: &Given) -> Expected {
+/// What is not held to the original: a text that request 5 speaks of, or a verdict, a list or a
+/// game that meets an eye that completes a five, by request 6.
+#[derive(Debug, Clone, Copy, PartialEq, Eq)]
+pub enum LeftOut {
+    Text,
+    Verdict,
+    List,
+    Game,
+}
+
+/// What a call must answer, and as what it is left out of the comparison with the original.
+pub fn expected(call: &Call, given: &Given) -> (Expected, Option<LeftOut>) {
     match refusal(call, given) {
-        Some(number) => Err(number),
+        Some(number) => (Err(number), None),
         None => value(call, given),
     }
 }
@@ -121,22 +134,28 @@ fn is_occupied(call: &Call, given: &Given) -> bool {
 }
 
 /// The answer of a call that is not refused before it is asked.
-fn value(call: &Call, given: &Given) -> Expected {
+fn value(call: &Call, given: &Given) -> (Expected, Option<LeftOut>) {
     match (*call, &given.sound) {
-        (Call::Read, _) => left_out::read(&given.bytes).map(|cells| (225, cells.to_vec())),
+        (Call::Read, _) => {
+            let read = left_out::read(&given.bytes).map(|cells| (225, cells.to_vec()));
+            let is_left_out = left_out::text(&given.bytes);
+            (read, is_left_out.then_some(LeftOut::Text))
+        }
         (Call::TurnPoint { code, view }, _) => {
             let turned = naive::turned_point(usize::from(view), usize::from(code));
-            Ok((turned as u16, Vec::new()))
+            (Ok((turned as u16, Vec::new())), None)
         }
-        (Call::Game, _) => Ok(games::report(&given.bytes)),
-        (_, Some((cells, board))) => Ok(of_board(call, cells, board)),
-        (_, None) => Ok((of_line(call), Vec::new())),
+        (Call::Game, _) => {
+            let (report, is_left_out) = games::report(&given.bytes);
+            (Ok(report), is_left_out.then_some(LeftOut::Game))
+        }
+        (Call::Fast(question) | Call::Second(question), Some((cells, board))) => {
+            let (answer, left_out) = of_question(question, cells, board);
+            (Ok(answer), left_out)
+        }
+        (_, Some((cells, board))) => (Ok(of_board(call, cells, board)), None),
+        (_, None) => (Ok((of_line(call), Vec::new())), None),
     }
-}
-
-/// Whether a call is not held to the original: it reads a text that request 5 speaks of.
-pub fn is_left_out(call: &Call, given: &Given) -> bool {
-    *call == Call::Read && refusal(call, given).is_none() && left_out::text(&given.bytes)
 }
 
 /// The original's answer about a board; the views are the document's alone.
@@ -156,28 +175,40 @@ fn of_board(call: &Call, cells: &Cells, board: &Board) -> (u16, Vec<u8>) {
             distance,
             only_empty,
         } => list(original::neighbours(board, code, distance, only_empty), 1),
-        Call::Fast(question) | Call::Second(question) => of_question(question, board),
         Call::Turn { view } => list(naive::turned_board(usize::from(view), cells).to_vec(), 1),
         _ => unreachable!("{call:?} is not about a board"),
     }
 }
 
 /// .. to what both referees are asked.
-fn of_question(question: Question, board: &Board) -> (u16, Vec<u8>) {
+fn of_question(
+    question: Question,
+    cells: &Cells,
+    board: &Board,
+) -> ((u16, Vec<u8>), Option<LeftOut>) {
     use Question::*;
-    match question {
+    let rows = match question {
         Rows { colour, kind } => list(original::rows(board, colour, kind).concat(), 4),
         RowsOn { code, colour, kind } => {
             list(original::rows_on(board, code, colour, kind).concat(), 4)
         }
         FourEyesOn { code, colour } => list(original::four_eyes_on(board, code, colour), 1),
-        Forbidden { code } => (original::plain(board, code).into(), Vec::new()),
-        ForbiddenStrict { code } => (original::strict(board, code).into(), Vec::new()),
-        ForbiddenPoints => {
-            let found = original::forbidden_list(board).into_iter();
-            list(found.flat_map(|(kind, code)| [kind, code]).collect(), 2)
-        }
-    }
+        Forbidden { code } => return of_verdict(left_out::plain(cells, board, code)),
+        ForbiddenStrict { code } => return of_verdict(left_out::strict(cells, board, code)),
+        ForbiddenPoints => return of_list(left_out::forbidden_list(cells, board)),
+    };
+    (rows, None)
+}
+
+fn of_verdict(held: Held<u8>) -> ((u16, Vec<u8>), Option<LeftOut>) {
+    let answer = (held.answer.into(), Vec::new());
+    (answer, held.left_out.then_some(LeftOut::Verdict))
+}
+
+fn of_list(held: Held<Vec<(u8, u8)>>) -> ((u16, Vec<u8>), Option<LeftOut>) {
+    let pairs = held.answer.into_iter();
+    let answer = list(pairs.flat_map(|(kind, code)| [kind, code]).collect(), 2);
+    (answer, held.left_out.then_some(LeftOut::List))
 }
 
 /// A list: how many items of a width there are, and their bytes.

@@ -2,19 +2,21 @@
 
 use super::call::{Call, Given};
 use super::judge::{Judge, Room};
-use crate::reading::{mover, read};
+use crate::reading::{mover, read_held};
 use oracle::board::board::Board;
 use oracle::board::row::RowKind;
 use oracle::boards::Dice;
+use oracle::naive_text;
 use oracle::original::{self, player, point};
 
 /// How many games are asked with each board.
 const EACH: usize = 12;
 
-/// The answer and the bytes of a game's report, by the original.
-pub fn report(moves: &[u8]) -> (u16, Vec<u8>) {
-    let reading = read(moves);
-    (reading.number.into(), reading.bytes())
+/// The answer and the bytes of a game's report, by the original, and whether one of its verdicts
+/// is left out of the comparison with it and is the naive reading's.
+pub fn report(moves: &[u8]) -> ((u16, Vec<u8>), bool) {
+    let (reading, is_left_out) = read_held(moves);
+    ((reading.number.into(), reading.bytes()), is_left_out)
 }
 
 /// Games on both sides of every limit.
@@ -32,6 +34,16 @@ pub fn limits(judge: &mut Judge) {
     }
     ask(judge, &[0; 226]);
     ask(judge, &[7; 4000]);
+    // An eye that completes a five, at the first question and one deeper: request 6 reads both
+    // otherwise than the original.
+    for text in [
+        "D5,A15,E6,C15,F8,E15,F9,G15,G8,I15,H6,K15,H9,M15,F6",
+        "F6,A15,G5,C15,G7,E15,I5,G15,I6,I15,I8,K15,I9,M15,J8,O15,G6",
+    ] {
+        let moves = naive_text::points(text.as_bytes()).expect("points");
+        let moves: Vec<u8> = moves.into_iter().map(|code| code as u8).collect();
+        ask(judge, &moves);
+    }
     for room in 0..=230 {
         let given = Given::text(&[112, 113, 113]);
         judge.compare(Call::Game, &given, Room::Long(room));

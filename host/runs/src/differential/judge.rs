@@ -1,7 +1,7 @@
 //! One comparison: the call made, and its word and every byte held to what they must be.
 
 use super::call::{Call, GUARD, Given, Host, Lends, Lent};
-use super::expected::{Expected, expected, is_left_out};
+use super::expected::{Expected, expected};
 use super::tally::Tally;
 use oracle::boards::Dice;
 use std::hint::black_box;
@@ -114,8 +114,10 @@ impl<'a> Judge<'a> {
 
     /// One comparison, counted; where the second referee can be asked the same, two.
     pub fn compare(&mut self, call: Call, given: &Given, room: Room) {
-        let answer = expected(&call, given);
-        self.tally.left_out += u64::from(is_left_out(&call, given));
+        let (answer, left_out) = expected(&call, given);
+        if let Some(as_what) = left_out {
+            self.tally.left_out[as_what as usize] += 1;
+        }
         self.hold(call, given, room, &answer);
         if let (Call::Game, Ok((_, report))) = (call, &answer) {
             self.tally.games.count(report, given.bytes.len());
@@ -148,7 +150,7 @@ impl<'a> Judge<'a> {
 
     /// The difference in a case, if there is one; not counted.
     pub fn again(&mut self, case: Case) -> Option<Difference> {
-        let answer = expected(&case.call, &case.given);
+        let (answer, _) = expected(&case.call, &case.given);
         let differs = self.differs(&case.call, &case.given, case.room, case.filled, &answer);
         differs.then(|| Difference {
             case,

@@ -73,10 +73,10 @@ pub fn games(tally: &Tally) -> String {
 
 /// What was not held to the original.
 pub fn left_out(tally: &Tally) -> String {
+    let [texts, verdicts, lists, games] = tally.left_out;
     format!(
-        "{} of the texts read left out of the comparison with the original, by request 5, and held \
-         to the naive reading\n",
-        tally.left_out
+        "left out of the comparison with the original and held to the naive reading: {texts} texts, \
+         by request 5; {verdicts} verdicts, {lists} lists and {games} games, by request 6\n"
     )
 }
 

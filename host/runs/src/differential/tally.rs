@@ -18,11 +18,12 @@ pub struct Count {
 pub struct Tally {
     pub counts: [Count; NAMES.len()],
     pub games: Games,
-    /// How many of the comparisons were not with the original: texts that request 5 speaks of.
-    pub left_out: u64,
+    /// How many questions were not held to the original, in the order of `LeftOut`: texts, verdicts,
+    /// lists and games. A question that both referees are asked counts once.
+    pub left_out: [u64; 4],
 }
 
-/// What the games that were not refused came to, by the original.
+/// What the games that were not refused came to, by the reading that they are held to.
 #[derive(Clone, Default)]
 pub struct Games {
     /// The moves that were read: up to a game's fault, or all.
@@ -114,6 +115,8 @@ impl Tally {
         for (count, more) in self.counts.iter_mut().zip(other.counts) {
             count.add(more);
         }
-        self.left_out += other.left_out;
+        for (count, more) in self.left_out.iter_mut().zip(other.left_out) {
+            *count += more;
+        }
     }
 }

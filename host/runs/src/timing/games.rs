@@ -9,7 +9,7 @@ use oracle::original::{player, point, strict};
 use renju::raw;
 
 use super::race::Race;
-use crate::reading::{mover, read};
+use crate::reading::{mover, read, read_held};
 
 /// How many moves the games have.
 pub const LENGTHS: [usize; 4] = [20, 60, 120, 225];
@@ -18,17 +18,26 @@ pub const LENGTHS: [usize; 4] = [20, 60, 120, 225];
 /// one is a board without a five, put stone by stone.
 const PLAYED: usize = 60;
 
-/// Games of so many moves without a fault, each move a code.
+/// Games of so many moves, each move a code, without a fault by the original and by request 6: both
+/// sides read all of each.
 pub fn games(seed: u64, length: usize, count: usize) -> Vec<Vec<u8>> {
     let mut dice = Dice::new(seed.wrapping_mul(1000).wrapping_add(length as u64));
-    let one = |dice: &mut Dice| {
+    let made = std::iter::repeat_with(|| {
         if length <= PLAYED {
-            played(dice, length)
+            played(&mut dice, length)
         } else {
-            put_in_turn(dice, length)
+            put_in_turn(&mut dice, length)
         }
-    };
-    (0..count).map(|_| one(&mut dice)).collect()
+    });
+    made.filter(|moves| is_faultless(moves))
+        .take(count)
+        .collect()
+}
+
+/// Whether a game is without a fault, and meets no eye that completes a five.
+fn is_faultless(moves: &[u8]) -> bool {
+    let (reading, is_left_out) = read_held(moves);
+    reading.number == 0 && !is_left_out
 }
 
 /// The first game of the dice that gets so far.
@@ -127,7 +136,7 @@ impl Race for Games {
     }
 
     fn agrees(&mut self, question: usize) -> bool {
-        let reading = read(&self.games[question]);
+        let (reading, _) = read_held(&self.games[question]);
         let word = raw::renju_game(&self.games[question], &mut self.out);
         word == reading.number.into() && self.out[..] == reading.bytes()
     }

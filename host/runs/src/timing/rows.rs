@@ -7,6 +7,7 @@ use std::hint::black_box;
 use oracle::board::board::Board;
 use oracle::board::grid::Grid;
 use oracle::board::player::Player;
+use oracle::left_out::{both_lists, both_strict};
 use oracle::original::{self, Cells};
 use renju::raw;
 
@@ -62,7 +63,7 @@ impl Race for Lists<'_> {
     fn agrees(&mut self, question: usize) -> bool {
         let Ready { cells, board, .. } = &self.boards[question];
         let found = match self.other {
-            Other::Original => Some(original::forbidden_list(board)),
+            Other::Original => Some(both_lists(cells, board).expected()),
             Other::Second => pairs(raw::renju_second_forbidden_points, cells),
         };
         found.is_some() && found == pairs(raw::renju_forbidden_points, cells)
@@ -130,7 +131,7 @@ impl Race for Verdicts<'_> {
         let (n, code) = self.places[question];
         let Ready { cells, board, .. } = &self.boards[n];
         let verdict = match self.other {
-            Other::Original => original::strict(board, code).into(),
+            Other::Original => both_strict(cells, board, code).expected().into(),
             Other::Second => raw::renju_second_forbidden_strict(cells, code),
         };
         verdict < REFUSAL && verdict == raw::renju_forbidden_strict(cells, code)

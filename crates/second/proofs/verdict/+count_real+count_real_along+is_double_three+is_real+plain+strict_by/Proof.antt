@@ -1,5 +1,5 @@
 -- The six functions of the cycle meet their contracts. What falls at each call is six times the number of empty points, and a little: on
--- one board `count_real` 6, `count_real_along` 5, `is_real` 4, `strict` 3, `plain` 2, `is_double_three` 1. Assumes nothing.
+-- one board `count_real` 6, `count_real_along` 5, `is_real` 4, `strict_by` 3, `plain` 2, `is_double_three` 1. Assumes nothing.
 use mathlib.Core.Path.{_≡_, refl, ap, sym, _∙_}
 use mathlib.Core.List.{List}
 use Prim.Native.Nat.{ℕ, _+_, _-_, _*_, _≤_, _<_}
@@ -7,42 +7,42 @@ use native.Mathlib.Omega.{arith}
 use denote.Ref.{now}
 use borrow.Author.Tests.{not-true, not-false, lt-ltb, le-ltb}
 use borrow.Author.Needs.{needs}
-use Rattle.rules.specs.Numbers.{isNone}
 use Rattle.rules.specs.Grid.{empties}
-use Rattle.rules.specs.Forbidden.{mayPlay, realThrees, strictOf, plainOf, plainWith, isOverline, isDoubleFour, isDoubleThree}
+use Rattle.rules.specs.Forbidden.{realThrees, strictOf, plainOf, plainWith, isOverline, isDoubleFour, isDoubleThree}
 use Rattle.rules.proofs.Logic.{true-T}
-use Rattle.rules.proofs.Gap.{real-eye}
+use Rattle.rules.proofs.Gap.{eye-free, five-not-real, real-told}
 use Rattle.second.specs.Count.{rowCount, rowsAlong}
 use Rattle.second.proofs.Tallied.{Seen, seen-none, seen-far, seen-more, seen-all}
-use Rattle.second.proofs.Asked.{some-true, some-false, more-true, more-false, more-is, asked-taken, asked-five, asked-plain}
+use Rattle.second.proofs.Asked.{some-true, some-false, more-true, more-false, more-is, asked-five, asked-plain}
+use Rattle.second.proofs.Asked.{five-true, five-false, zero-there}
 use Rattle.second.proofs.Asked.{with-ok, with-fewer, written-back, fewer}
 use borrow.Fn.Kinds.{In}
 use borrow.Fn.PlainCycle.{Measures, is, falls, and}
 use Rattle.second.proofs.verdict.count_real.Reads as count-real
 use Rattle.second.proofs.verdict.count_real.Kinds as count-real-kinds
-use Rattle.second.proofs.verdict.+count_real+count_real_along+is_double_three+is_real+plain+strict.Lts-count_real as count-real-lts
+use Rattle.second.proofs.verdict.+count_real+count_real_along+is_double_three+is_real+plain+strict_by.Lts-count_real as count-real-lts
 use Rattle.second.proofs.verdict.count_real_along.Reads as count-real-along
 use Rattle.second.proofs.verdict.count_real_along.Kinds as count-real-along-kinds
-use Rattle.second.proofs.verdict.+count_real+count_real_along+is_double_three+is_real+plain+strict.Lts-count_real_along as count-real-along-lts
+use Rattle.second.proofs.verdict.+count_real+count_real_along+is_double_three+is_real+plain+strict_by.Lts-count_real_along as count-real-along-lts
 use Rattle.second.proofs.verdict.is_double_three.Reads as is-double-three
 use Rattle.second.proofs.verdict.is_double_three.Kinds as is-double-three-kinds
-use Rattle.second.proofs.verdict.+count_real+count_real_along+is_double_three+is_real+plain+strict.Lts-is_double_three as is-double-three-lts
+use Rattle.second.proofs.verdict.+count_real+count_real_along+is_double_three+is_real+plain+strict_by.Lts-is_double_three as is-double-three-lts
 use Rattle.second.proofs.verdict.is_real.Reads as is-real
 use Rattle.second.proofs.verdict.is_real.Kinds as is-real-kinds
-use Rattle.second.proofs.verdict.+count_real+count_real_along+is_double_three+is_real+plain+strict.Lts-is_real as is-real-lts
+use Rattle.second.proofs.verdict.+count_real+count_real_along+is_double_three+is_real+plain+strict_by.Lts-is_real as is-real-lts
 use Rattle.second.proofs.verdict.plain.Reads as plain
 use Rattle.second.proofs.verdict.plain.Kinds as plain-kinds
-use Rattle.second.proofs.verdict.+count_real+count_real_along+is_double_three+is_real+plain+strict.Lts-plain as plain-lts
-use Rattle.second.proofs.verdict.strict.Reads as strict
-use Rattle.second.proofs.verdict.strict.Kinds as strict-kinds
-use Rattle.second.proofs.verdict.+count_real+count_real_along+is_double_three+is_real+plain+strict.Lts-strict as strict-lts
+use Rattle.second.proofs.verdict.+count_real+count_real_along+is_double_three+is_real+plain+strict_by.Lts-plain as plain-lts
+use Rattle.second.proofs.verdict.strict_by.Reads as strict-by
+use Rattle.second.proofs.verdict.strict_by.Kinds as strict-by-kinds
+use Rattle.second.proofs.verdict.+count_real+count_real_along+is_double_three+is_real+plain+strict_by.Lts-strict_by as strict-by-lts
 use Rattle.rules.proofs.Verdict.is_none.Reads as is-none-reads
 use Rattle.second.proofs.count.count_rows.Reads as count-rows-reads
 use Rattle.second.proofs.count.first_start.Reads as first-start-reads
 use Rattle.second.proofs.eye.eye_of.Reads as eye-of-reads
 use Rattle.second.proofs.row.is_through.Reads as is-through-reads
-use Rattle.second.proofs.verdict.+count_real+count_real_along+is_double_three+is_real+plain+strict.{statement}
-use Rattle.second.proofs.verdict.+count_real+count_real_along+is_double_three+is_real+plain+strict.Tie.{close}
+use Rattle.second.proofs.verdict.+count_real+count_real_along+is_double_three+is_real+plain+strict_by.{statement}
+use Rattle.second.proofs.verdict.+count_real+count_real_along+is_double_three+is_real+plain+strict_by.Tie.{close}
 
 abbrev μ-count-real : Measures 1 count-real-kinds.ps ℕ
 μ-count-real κs a = 6 * empties (a .0 .now) + 6
@@ -59,8 +59,8 @@ abbrev μ-is-real : Measures 1 is-real-kinds.ps ℕ
 abbrev μ-plain : Measures 1 plain-kinds.ps ℕ
 μ-plain κs a = 6 * empties (a .0 .now) + 2
 
-abbrev μ-strict : Measures 1 strict-kinds.ps ℕ
-μ-strict κs a = 6 * empties (a .0 .now) + 3
+abbrev μ-strict-by : Measures 1 strict-by-kinds.ps ℕ
+μ-strict-by κs a = 6 * empties (a .0 .now) + 3
 
 abbrev count-real-at : ℕ → In 1 count-real-kinds.ps
 count-real-at t =
@@ -114,11 +114,11 @@ plain-at t = and 1 plain-kinds.ps (is 1 plain-kinds.ps μ-plain t) plain.Pre
 abbrev plain-below : ℕ → In 1 plain-kinds.ps
 plain-below t = and 1 plain-kinds.ps (falls 1 plain-kinds.ps _<_ μ-plain t) plain.Pre
 
-abbrev strict-at : ℕ → In 1 strict-kinds.ps
-strict-at t = and 1 strict-kinds.ps (is 1 strict-kinds.ps μ-strict t) strict.Pre
+abbrev strict-by-at : ℕ → In 1 strict-by-kinds.ps
+strict-by-at t = and 1 strict-by-kinds.ps (is 1 strict-by-kinds.ps μ-strict-by t) strict-by.Pre
 
-abbrev strict-below : ℕ → In 1 strict-kinds.ps
-strict-below t = and 1 strict-kinds.ps (falls 1 strict-kinds.ps _<_ μ-strict t) strict.Pre
+abbrev strict-by-below : ℕ → In 1 strict-by-kinds.ps
+strict-by-below t = and 1 strict-by-kinds.ps (falls 1 strict-by-kinds.ps _<_ μ-strict-by t) strict-by.Pre
 
 -- what `count-real` is told of those that it calls
 abbrev count-real-calls : ℕ → count-real-lts.Claims
@@ -139,8 +139,10 @@ is-real-calls t = (
   is-through-reads.Learnt,
   eye-of-reads.Asked,
   eye-of-reads.Learnt,
-  strict-below t,
-  strict.Post,
+  count-rows-reads.Asked,
+  count-rows-reads.Learnt,
+  strict-by-below t,
+  strict-by.Post,
   is-none-reads.Asked,
   is-none-reads.Learnt,
 )
@@ -149,9 +151,9 @@ is-real-calls t = (
 abbrev plain-calls : ℕ → plain-lts.Claims
 plain-calls t = (count-rows-reads.Asked, count-rows-reads.Learnt, is-double-three-below t, is-double-three.Post)
 
--- what `strict` is told of those that it calls
-abbrev strict-calls : ℕ → strict-lts.Claims
-strict-calls t = (count-rows-reads.Asked, count-rows-reads.Learnt, plain-below t, plain.Post)
+-- what `strict-by` is told of those that it calls
+abbrev strict-by-calls : ℕ → strict-by-lts.Claims
+strict-by-calls t = (plain-below t, plain.Post)
 
 count-real-count-real-along-requires : (t : ℕ) → count-real-lts.Need-count-real-along-requires (count-real-calls t)
     (count-real-at t) count-real.Post
@@ -357,27 +359,61 @@ is-real-eye-of-requires t c κs =
     let s = o .before .before .before in
     (s .pre .1 .1, s .pre .1 .2, s .pre .1 .3, true-T (sym (o .before .is-through .ensures) ∙ not-false _ (o .if1 .left)))
 
-is-real-strict-requires : (t : ℕ) → is-real-lts.Need-strict-requires (is-real-calls t) (is-real-at t) is-real.Post
-is-real-strict-requires t c κs =
-    let s = c .before .before .before .before .before .before in
-    let m = s .pre .0 in
-    (omega arith, (s .pre .1 .0, c .before .eye-of .ensures .1))
-
-is-real-is-none-requires : (t : ℕ) → is-real-lts.Need-is-none-requires (is-real-calls t) (is-real-at t) is-real.Post
-is-real-is-none-requires t c κs = search needs
+is-real-count-rows-requires : (t : ℕ) → is-real-lts.Need-count-rows-requires (is-real-calls t) (is-real-at t) is-real.Post
+is-real-count-rows-requires t c κs = c .before .eye-of .ensures .1
 
 is-real-returns-2 : (t : ℕ) → is-real-lts.Need-returns-2 (is-real-calls t) (is-real-at t) is-real.Post
-unfolding realThrees mayPlay
+unfolding realThrees
 is-real-returns-2 t c =
-    let v = c .before .strict .ensures in
-    let y = c .before .before .before in
+    let f = c .before in
+    let y = f .before .before in
     let o = y .before .before in
     let s = o .before .before .before in
     let a = s .args in
     let on = sym (o .before .is-through .ensures) ∙ not-false _ (o .if1 .left) in (
-      c .is-none .ensures ∙ ap isNone (v .0 ∙ ap (strictOf (now (a .board))) (y .eye-of .ensures .0))
-          ∙ sym (real-eye (now (a .board)) (a .code) (a .d) (a .j) (s .pre .1 .2) (s .pre .1 .1) (true-T on) strictOf) ∙ rw on refl,
-      v .1,
+      five-not-real (now (a .board)) (a .code) (a .d) (a .j) (s .pre .1 .2) (s .pre .1 .1) (true-T on) strictOf (y .eye-of .ensures .0)
+          (five-true (now (a .board)) _ (f .count-rows .ensures) (c .if2 .taken)) ∙ rw on refl,
+      refl,
+    )
+
+is-real-strict-by-requires : (t : ℕ) → is-real-lts.Need-strict-by-requires (is-real-calls t) (is-real-at t) is-real.Post
+is-real-strict-by-requires t c κs =
+    let f = c .before .before in
+    let y = f .before .before in
+    let o = y .before .before in
+    let s = o .before .before .before in
+    let a = s .args in
+    let m = s .pre .0 in
+    let e = y .eye-of .ensures in
+    let on = true-T (sym (o .before .is-through .ensures) ∙ not-false _ (o .if1 .left)) in (
+      omega arith,
+      (
+        s .pre .1 .0,
+        e .1,
+        zero-there (now (a .board)) _ (s .pre .1 .0) (e .1)
+            (rw (e .0) (eye-free (now (a .board)) (a .code) (a .d) (a .j) (s .pre .1 .2) (s .pre .1 .1) on)),
+        f .count-rows .ensures,
+      ),
+    )
+
+is-real-is-none-requires : (t : ℕ) → is-real-lts.Need-is-none-requires (is-real-calls t) (is-real-at t) is-real.Post
+is-real-is-none-requires t c κs = search needs
+
+is-real-returns-3 : (t : ℕ) → is-real-lts.Need-returns-3 (is-real-calls t) (is-real-at t) is-real.Post
+unfolding realThrees
+is-real-returns-3 t c =
+    let v = c .before in
+    let g = v .before .before in
+    let f = g .before in
+    let y = f .before .before in
+    let o = y .before .before in
+    let s = o .before .before .before in
+    let a = s .args in
+    let on = sym (o .before .is-through .ensures) ∙ not-false _ (o .if1 .left) in (
+      c .is-none .ensures
+          ∙ real-told (now (a .board)) (a .code) (a .d) (a .j) (s .pre .1 .2) (s .pre .1 .1) (true-T on) strictOf (y .eye-of .ensures .0)
+          (five-false (now (a .board)) _ (f .count-rows .ensures) (g .if2 .left)) (v .strict-by .ensures .0) ∙ rw on refl,
+      v .strict-by .ensures .1,
     )
 
 plain-count-rows-requires : (t : ℕ) → plain-lts.Need-count-rows-requires (plain-calls t) (plain-at t) plain.Post
@@ -431,55 +467,40 @@ plain-returns-4 t c =
       r .1,
     )
 
-strict-element-copy-out-if1 : (t : ℕ) → strict-lts.Need-element-copy-out-if1 (strict-calls t) (strict-at t) strict.Post
-strict-element-copy-out-if1 t c = search needs
-
-strict-returns : (t : ℕ) → strict-lts.Need-returns (strict-calls t) (strict-at t) strict.Post
-strict-returns t c =
-    let s = c .before .before in
+strict-by-returns : (t : ℕ) → strict-by-lts.Need-returns (strict-by-calls t) (strict-by-at t) strict-by.Post
+strict-by-returns t c =
+    let s = c .before in
     let a = s .args in
-    (asked-taken (now (a .board)) (a .code) (s .pre .1 .0) (s .pre .1 .1) (c .if1 .taken), refl)
+    let p = s .pre .1 in
+    (asked-five (now (a .board)) (a .code) (p .0) (p .1) (p .2) (p .3) (c .if1 .taken), refl)
 
-strict-count-rows-requires : (t : ℕ) → strict-lts.Need-count-rows-requires (strict-calls t) (strict-at t) strict.Post
-strict-count-rows-requires t c κs = search needs
-
-strict-returns-2 : (t : ℕ) → strict-lts.Need-returns-2 (strict-calls t) (strict-at t) strict.Post
-strict-returns-2 t c =
-    let o = c .before .before .before in
-    let s = o .before .before in
-    let a = s .args in (
-      asked-five (now (a .board)) (a .code) (s .pre .1 .0) (s .pre .1 .1) (o .if1 .left) (c .before .count-rows .ensures) (c .if2 .taken),
-      refl,
-    )
-
-strict-plain-requires : (t : ℕ) → strict-lts.Need-plain-requires (strict-calls t) (strict-at t) strict.Post
-strict-plain-requires t c κs =
-    let o = c .before .before .before .before in
-    let s = o .before .before in
+strict-by-plain-requires : (t : ℕ) → strict-by-lts.Need-plain-requires (strict-by-calls t) (strict-by-at t) strict-by.Post
+strict-by-plain-requires t c κs =
+    let s = c .before .before in
     let m = s .pre .0 in
-    (omega arith, (s .pre .1 .0, s .pre .1 .1, o .if1 .left))
+    let p = s .pre .1 in
+    (omega arith, (p .0, p .1, p .2))
 
-strict-returns-3 : (t : ℕ) → strict-lts.Need-returns-3 (strict-calls t) (strict-at t) strict.Post
-strict-returns-3 t c =
-    let f = c .before .before in
-    let o = f .before .before .before in
-    let s = o .before .before in
-    let a = s .args in (
-      c .plain .ensures .0 ∙ asked-plain (now (a .board)) (a .code) (s .pre .1 .0) (s .pre .1 .1) (o .if1 .left)
-          (f .before .count-rows .ensures) (f .if2 .left),
+strict-by-returns-2 : (t : ℕ) → strict-by-lts.Need-returns-2 (strict-by-calls t) (strict-by-at t) strict-by.Post
+strict-by-returns-2 t c =
+    let o = c .before .before in
+    let s = o .before in
+    let a = s .args in
+    let p = s .pre .1 in (
+      c .plain .ensures .0 ∙ asked-plain (now (a .board)) (a .code) (p .0) (p .1) (p .2) (p .3) (o .if1 .left),
       c .plain .ensures .1,
     )
 
-pub +count-real+count-real-along+is-double-three+is-real+plain+strict-spec :
+pub +count-real+count-real-along+is-double-three+is-real+plain+strict-by-spec :
     {M : Type 1} → statement M
-+count-real+count-real-along+is-double-three+is-real+plain+strict-spec =
++count-real+count-real-along+is-double-three+is-real+plain+strict-by-spec =
     close
     μ-count-real
     μ-count-real-along
     μ-is-double-three
     μ-is-real
     μ-plain
-    μ-strict
+    μ-strict-by
     (λ t. count-real-lts.spec
     (count-real-along-below t, count-real-along.Post)
     (count-real-at t)
@@ -522,9 +543,11 @@ pub +count-real+count-real-along+is-double-three+is-real+plain+strict-spec :
     (is-real-is-through-requires t)
     (is-real-returns t)
     (is-real-eye-of-requires t)
-    (is-real-strict-requires t)
+    (is-real-count-rows-requires t)
+    (is-real-returns-2 t)
+    (is-real-strict-by-requires t)
     (is-real-is-none-requires t)
-    (is-real-returns-2 t))
+    (is-real-returns-3 t))
     (λ t. plain-lts.spec (plain-calls t)
     (plain-at t)
     plain.Post
@@ -535,13 +558,10 @@ pub +count-real+count-real-along+is-double-three+is-real+plain+strict-spec :
     (plain-is-double-three-requires t)
     (plain-returns-3 t)
     (plain-returns-4 t))
-    λ t. strict-lts.spec
-    (count-rows-reads.Asked, count-rows-reads.Learnt, plain-below t, plain.Post)
-    (strict-at t)
-    strict.Post
-    (strict-element-copy-out-if1 t)
-    (strict-returns t)
-    (strict-count-rows-requires t)
-    (strict-returns-2 t)
-    (strict-plain-requires t)
-    (strict-returns-3 t)
+    λ t. strict-by-lts.spec
+    (plain-below t, plain.Post)
+    (strict-by-at t)
+    strict-by.Post
+    (strict-by-returns t)
+    (strict-by-plain-requires t)
+    (strict-by-returns-2 t)

@@ -1,24 +1,20 @@
--- The seven functions of the cycle meet their contracts. What falls at each call is seven times the number of empty points, and a little:
--- on one board `two_real` 7, `first_real` 6, `is_real` 5, `strict` 4, `strict_by` 3, `plain` 2, `trial` 1. Assumes nothing.
+-- The six functions of the cycle meet their contracts. What falls at each call is six times the number of empty points, and a little:
+-- on one board `two_real` 6, `first_real` 5, `is_real` 4, `strict_by` 3, `plain` 2, `trial` 1. Assumes nothing.
 use mathlib.Core.Path.{_≡_, refl, ap, sym, subst, _∙_}
 use mathlib.Core.List.{List}
 use native.Mathlib.Omega.{arith}
 use lib.Dec.{T}
 use borrow.Author.Needs.{needs}
-use borrow.Author.Tests.{eq-eqb}
-use Rattle.rules.specs.Numbers.{isNone}
 use Rattle.rules.specs.Grid.{empties, startsOf, rowsThrough, numbered, nextFrom}
-use Rattle.rules.specs.Forbidden.{mayPlay, isReal, realThrees, strictOf, realDouble}
+use Rattle.rules.specs.Forbidden.{isReal, realThrees, strictOf, realDouble}
 use Rattle.rules.specs.declared.Player.the-variants.{Black}
 use Rattle.rules.specs.declared.RowKind.the-variants.{Three}
 use Rattle.rules.proofs.Logic.{true-T}
-use Rattle.rules.proofs.Gap.{real-eye}
 use Rattle.grid.specs.Lines.{cellsOf, Sound}
-use Rattle.grid.proofs.Lines.{length-cellsOf}
 use Rattle.referee.specs.Referee.{plainBy, strictBy}
-use Rattle.referee.proofs.RowsSeen.{strict-is, triable}
-use Rattle.referee.proofs.EyeFound.{eye-small}
-use Rattle.referee.proofs.Asked.{cell-is, free-is, asked-taken, on-sound, on-cells, on-fewer, on-threes, added, lifted, fewer}
+use Rattle.referee.proofs.RowsSeen.{triable}
+use Rattle.referee.proofs.EyeFound.{eye-small, eye-empty, five-seen, real-seen}
+use Rattle.referee.proofs.Asked.{on-sound, on-cells, on-fewer, on-threes, added, lifted, fewer}
 use Rattle.rules.proofs.Numbered.{next-ge, next-past}
 use Rattle.rules.proofs.Search.{to-start, three-there, found, passed, real-one, real-two}
 use Prim.Native.Nat.{ℕ, _+_, _-_, _*_, _/_, _%_, _<_}
@@ -26,26 +22,22 @@ use borrow.Fn.Kinds.{In}
 use borrow.Fn.PlainCycle.{Measures, is, falls, and}
 use Rattle.referee.proofs.cycle.first_real.Reads as first-real
 use Rattle.referee.proofs.cycle.first_real.Kinds as first-real-kinds
-use Rattle.referee.proofs.cycle.+first_real+is_real+plain+strict+strict_by+trial+two_real.Lts-first_real as first-real-lts
+use Rattle.referee.proofs.cycle.+first_real+is_real+plain+strict_by+trial+two_real.Lts-first_real as first-real-lts
 use Rattle.referee.proofs.cycle.is_real.Reads as is-real
 use Rattle.referee.proofs.cycle.is_real.Kinds as is-real-kinds
-use Rattle.referee.proofs.cycle.+first_real+is_real+plain+strict+strict_by+trial+two_real.Lts-is_real as is-real-lts
+use Rattle.referee.proofs.cycle.+first_real+is_real+plain+strict_by+trial+two_real.Lts-is_real as is-real-lts
 use Rattle.referee.proofs.cycle.plain.Reads as plain
 use Rattle.referee.proofs.cycle.plain.Kinds as plain-kinds
-use Rattle.referee.proofs.cycle.+first_real+is_real+plain+strict+strict_by+trial+two_real.Lts-plain as plain-lts
-use Rattle.referee.proofs.cycle.strict.Reads as strict
-use Rattle.referee.proofs.cycle.strict.Kinds as strict-kinds
-use Rattle.referee.proofs.cycle.+first_real+is_real+plain+strict+strict_by+trial+two_real.Lts-strict as strict-lts
+use Rattle.referee.proofs.cycle.+first_real+is_real+plain+strict_by+trial+two_real.Lts-plain as plain-lts
 use Rattle.referee.proofs.cycle.strict_by.Reads as strict-by
 use Rattle.referee.proofs.cycle.strict_by.Kinds as strict-by-kinds
-use Rattle.referee.proofs.cycle.+first_real+is_real+plain+strict+strict_by+trial+two_real.Lts-strict_by as strict-by-lts
+use Rattle.referee.proofs.cycle.+first_real+is_real+plain+strict_by+trial+two_real.Lts-strict_by as strict-by-lts
 use Rattle.referee.proofs.cycle.trial.Reads as trial
 use Rattle.referee.proofs.cycle.trial.Kinds as trial-kinds
-use Rattle.referee.proofs.cycle.+first_real+is_real+plain+strict+strict_by+trial+two_real.Lts-trial as trial-lts
+use Rattle.referee.proofs.cycle.+first_real+is_real+plain+strict_by+trial+two_real.Lts-trial as trial-lts
 use Rattle.referee.proofs.cycle.two_real.Reads as two-real
 use Rattle.referee.proofs.cycle.two_real.Kinds as two-real-kinds
-use Rattle.referee.proofs.cycle.+first_real+is_real+plain+strict+strict_by+trial+two_real.Lts-two_real as two-real-lts
-use Rattle.grid.proofs.cell_on.Reads as cell-on-reads
+use Rattle.referee.proofs.cycle.+first_real+is_real+plain+strict_by+trial+two_real.Lts-two_real as two-real-lts
 use Rattle.grid.proofs.add_on.Reads as add-on-reads
 use Rattle.grid.proofs.lift_on.Reads as lift-on-reads
 use Rattle.near.proofs.more_than_one.Reads as more-than-one-reads
@@ -54,33 +46,30 @@ use Rattle.near.proofs.some_row.Reads as some-row-reads
 use Rattle.referee.proofs.eye.eye_on.Reads as eye-on-reads
 use Rattle.referee.proofs.rows.rows_on.Reads as rows-on-reads
 use Rattle.rules.proofs.Verdict.is_none.Reads as is-none-reads
-use Rattle.referee.proofs.cycle.+first_real+is_real+plain+strict+strict_by+trial+two_real.{
+use Rattle.referee.proofs.cycle.+first_real+is_real+plain+strict_by+trial+two_real.{
   statement,
 }
-use Rattle.referee.proofs.cycle.+first_real+is_real+plain+strict+strict_by+trial+two_real.Tie.{
+use Rattle.referee.proofs.cycle.+first_real+is_real+plain+strict_by+trial+two_real.Tie.{
   close,
 }
 
 abbrev μ-first-real : Measures 2 first-real-kinds.ps ℕ
-μ-first-real κs a = 7 * empties (cellsOf (a .0 .now)) + 6
+μ-first-real κs a = 6 * empties (cellsOf (a .0 .now)) + 5
 
 abbrev μ-is-real : Measures 2 is-real-kinds.ps ℕ
-μ-is-real κs a = 7 * empties (cellsOf (a .0 .now)) + 5
+μ-is-real κs a = 6 * empties (cellsOf (a .0 .now)) + 4
 
 abbrev μ-plain : Measures 2 plain-kinds.ps ℕ
-μ-plain κs a = 7 * empties (cellsOf (a .0 .now)) + 2
-
-abbrev μ-strict : Measures 2 strict-kinds.ps ℕ
-μ-strict κs a = 7 * empties (cellsOf (a .0 .now)) + 4
+μ-plain κs a = 6 * empties (cellsOf (a .0 .now)) + 2
 
 abbrev μ-strict-by : Measures 2 strict-by-kinds.ps ℕ
-μ-strict-by κs a = 7 * empties (cellsOf (a .0 .now)) + 3
+μ-strict-by κs a = 6 * empties (cellsOf (a .0 .now)) + 3
 
 abbrev μ-trial : Measures 2 trial-kinds.ps ℕ
-μ-trial κs a = 7 * empties (cellsOf (a .0 .now)) + 1
+μ-trial κs a = 6 * empties (cellsOf (a .0 .now)) + 1
 
 abbrev μ-two-real : Measures 2 two-real-kinds.ps ℕ
-μ-two-real κs a = 7 * empties (cellsOf (a .0 .now)) + 7
+μ-two-real κs a = 6 * empties (cellsOf (a .0 .now)) + 6
 
 abbrev first-real-at : ℕ → In 2 first-real-kinds.ps
 first-real-at t =
@@ -101,12 +90,6 @@ plain-at t = and 2 plain-kinds.ps (is 2 plain-kinds.ps μ-plain t) plain.Pre
 
 abbrev plain-below : ℕ → In 2 plain-kinds.ps
 plain-below t = and 2 plain-kinds.ps (falls 2 plain-kinds.ps _<_ μ-plain t) plain.Pre
-
-abbrev strict-at : ℕ → In 2 strict-kinds.ps
-strict-at t = and 2 strict-kinds.ps (is 2 strict-kinds.ps μ-strict t) strict.Pre
-
-abbrev strict-below : ℕ → In 2 strict-kinds.ps
-strict-below t = and 2 strict-kinds.ps (falls 2 strict-kinds.ps _<_ μ-strict t) strict.Pre
 
 abbrev strict-by-at : ℕ → In 2 strict-by-kinds.ps
 strict-by-at t = and 2 strict-by-kinds.ps (is 2 strict-by-kinds.ps μ-strict-by t) strict-by.Pre
@@ -144,7 +127,18 @@ first-real-calls t = (next-start-reads.Asked, next-start-reads.Learnt, is-real-b
 
 -- what `is-real` is told of those that it calls
 abbrev is-real-calls : ℕ → is-real-lts.Claims
-is-real-calls t = (eye-on-reads.Asked, eye-on-reads.Learnt, strict-below t, strict.Post, is-none-reads.Asked, is-none-reads.Learnt)
+is-real-calls t = (
+  eye-on-reads.Asked,
+  eye-on-reads.Learnt,
+  rows-on-reads.Asked,
+  rows-on-reads.Learnt,
+  some-row-reads.Asked,
+  some-row-reads.Learnt,
+  strict-by-below t,
+  strict-by.Post,
+  is-none-reads.Asked,
+  is-none-reads.Learnt,
+)
 
 -- what `plain` is told of those that it calls
 abbrev plain-calls : ℕ → plain-lts.Claims
@@ -156,10 +150,6 @@ plain-calls t = (
   trial-below t,
   trial.Post,
 )
-
--- what `strict` is told of those that it calls
-abbrev strict-calls : ℕ → strict-lts.Claims
-strict-calls t = (cell-on-reads.Asked, cell-on-reads.Learnt, rows-on-reads.Asked, rows-on-reads.Learnt, strict-by-below t, strict-by.Post)
 
 -- what `strict-by` is told of those that it calls
 abbrev strict-by-calls : ℕ → strict-by-lts.Claims
@@ -198,7 +188,7 @@ first-real-is-real-requires t c κs =
     let n = a .loop .inv .2 in
     let e = a .loop .inv .0 in
     let three = three-there (cellsOf L) p (s .args .threes) (s .pre .1 .2) (n .0) (a .loop .three) (n .1) (i .loop-test .taken) in (
-      fewer 5 L (a .loop .lines) t e (s .pre .0),
+      fewer 4 L (a .loop .lines) t e (s .pre .0),
       (
         subst Sound (sym e) (s .pre .1 .0),
         s .pre .1 .1,
@@ -274,17 +264,48 @@ first-real-returns-2 t c =
 is-real-eye-on-requires : (t : ℕ) → is-real-lts.Need-eye-on-requires (is-real-calls t) (is-real-at t) is-real.Post
 is-real-eye-on-requires t c κs = c .before .pre .1
 
-is-real-strict-requires : (t : ℕ) → is-real-lts.Need-strict-requires (is-real-calls t) (is-real-at t) is-real.Post
-is-real-strict-requires t c κs =
+is-real-rows-on-requires : (t : ℕ) → is-real-lts.Need-rows-on-requires (is-real-calls t) (is-real-at t) is-real.Post
+is-real-rows-on-requires t c κs =
     let s = c .before .before .before in
+    let t = s .pre .1 in (
+      t .0,
+      eye-small (s .args .lines .now) (s .args .code) (s .args .three / 16) (s .args .three % 16) (t .0) (t .1) (omega (arith, t .2)) (t .3)
+          (c .before .eye-on .ensures),
+      t .4,
+    )
+
+is-real-some-row-requires : (t : ℕ) → is-real-lts.Need-some-row-requires (is-real-calls t) (is-real-at t) is-real.Post
+is-real-some-row-requires t c κs = search needs
+
+is-real-returns : (t : ℕ) → is-real-lts.Need-returns (is-real-calls t) (is-real-at t) is-real.Post
+is-real-returns t c =
+    let o = c .before in
+    let r = o .before .before in
+    let e = r .before .before in
+    let s = e .before .before in
+    let t = s .pre .1 in (
+      five-seen (s .args .lines .now) (s .args .code) (s .args .three / 16) (s .args .three % 16) (t .0) (t .1) (omega (arith, t .2)) (t .3)
+          (e .eye-on .ensures) (r .rows-on .ensures) (o .some-row .ensures) (c .if1 .taken),
+      refl,
+    )
+
+is-real-strict-by-requires : (t : ℕ) → is-real-lts.Need-strict-by-requires (is-real-calls t) (is-real-at t) is-real.Post
+is-real-strict-by-requires t c κs =
+    let o = c .before in
+    let r = o .before .before .before in
+    let e = r .before .before in
+    let s = e .before .before in
     let L = s .args .lines .now in
     let m = s .pre .0 in
-    let t = s .pre .1 in (
+    let t = s .pre .1 in
+    let d = s .args .three / 16 in
+    let j = s .args .three % 16 in
+    let h : d < 4 = omega (arith, t .2) in (
       omega arith,
       (
-        t .0,
-        eye-small L (s .args .code) (s .args .three / 16) (s .args .three % 16) (t .0) (t .1) (omega (arith, t .2)) (t .3)
-            (c .before .eye-on .ensures),
+        eye-small L (s .args .code) d j (t .0) (t .1) h (t .3) (e .eye-on .ensures),
+        λ u. triable (cellsOf L) _ (r .rows-on .ensures) L (t .0) refl
+            (eye-empty L (s .args .code) d j (t .0) (t .1) h (t .3) (e .eye-on .ensures)),
         t .4,
       ),
     )
@@ -292,18 +313,18 @@ is-real-strict-requires t c κs =
 is-real-is-none-requires : (t : ℕ) → is-real-lts.Need-is-none-requires (is-real-calls t) (is-real-at t) is-real.Post
 is-real-is-none-requires t c κs = search needs
 
-is-real-returns : (t : ℕ) → is-real-lts.Need-returns (is-real-calls t) (is-real-at t) is-real.Post
-unfolding mayPlay
-is-real-returns t c =
-    let v = c .before .strict .ensures in
-    let e = c .before .before .before .eye-on .ensures in
-    let s = c .before .before .before .before .before in
-    let C = cellsOf (s .args .lines .now) in
+is-real-returns-2 : (t : ℕ) → is-real-lts.Need-returns-2 (is-real-calls t) (is-real-at t) is-real.Post
+is-real-returns-2 t c =
+    let v = c .before in
+    let o = v .before .before in
+    let r = o .before .before .before in
+    let e = r .before .before in
+    let s = e .before .before in
     let t = s .pre .1 in (
       c .is-none .ensures
-          ∙ ap isNone (v .0 ∙ ap (strictOf C) e)
-          ∙ sym (real-eye C (s .args .code) (s .args .three / 16) (s .args .three % 16) (t .1) (omega (arith, t .2)) (t .3) strictOf),
-      v .1,
+          ∙ real-seen (s .args .lines .now) (s .args .code) (s .args .three / 16) (s .args .three % 16) (t .0) (t .1) (omega (arith, t .2))
+          (t .3) (e .eye-on .ensures) (r .rows-on .ensures) (o .before .some-row .ensures) (o .if1 .left) (v .strict-by .ensures .0),
+      v .strict-by .ensures .1,
     )
 
 plain-some-row-requires : (t : ℕ) → plain-lts.Need-some-row-requires (plain-calls t) (plain-at t) plain.Post
@@ -381,41 +402,6 @@ plain-returns-5 t c =
       refl,
     )
 
-strict-cell-on-requires : (t : ℕ) → strict-lts.Need-cell-on-requires (strict-calls t) (strict-at t) strict.Post
-strict-cell-on-requires t c κs = search needs
-
-strict-returns : (t : ℕ) → strict-lts.Need-returns (strict-calls t) (strict-at t) strict.Post
-strict-returns t c =
-    let s = c .before .before .before in
-    (asked-taken (s .args .lines .now) (s .args .code) (s .pre .1 .1) (c .before .cell-on .ensures) (c .if1 .taken), refl)
-
-strict-rows-on-requires : (t : ℕ) → strict-lts.Need-rows-on-requires (strict-calls t) (strict-at t) strict.Post
-strict-rows-on-requires t c κs = c .before .before .before .before .pre .1
-
-strict-strict-by-requires : (t : ℕ) → strict-lts.Need-strict-by-requires (strict-calls t) (strict-at t) strict.Post
-strict-strict-by-requires t c κs =
-    let r = c .before in
-    let o = r .before .before in
-    let s = o .before .before .before in
-    let L = s .args .lines .now in
-    let p = s .args .code in
-    let m = s .pre .0 in
-    let free = sym (cell-is L p (s .pre .1 .1) (o .before .cell-on .ensures)) ∙ o .if1 .left in
-    (omega arith, (s .pre .1 .1, λ t. triable (cellsOf L) p (r .rows-on .ensures) L (s .pre .1 .0) refl free, s .pre .1 .2))
-
-strict-returns-2 : (t : ℕ) → strict-lts.Need-returns-2 (strict-calls t) (strict-at t) strict.Post
-strict-returns-2 t c =
-    let r = c .before .before in
-    let o = r .before .before in
-    let s = o .before .before .before in
-    let L = s .args .lines .now in
-    let p = s .args .code in
-    let free = free-is L p (s .pre .1 .1) (o .before .cell-on .ensures) ∙ eq-eqb _ 0 (o .if1 .left) in (
-      c .strict-by .ensures .0
-          ∙ strict-is (cellsOf L) p (r .rows-on .ensures) L (length-cellsOf L) (s .pre .1 .1) free (λ t. refl),
-      c .strict-by .ensures .1,
-    )
-
 strict-by-some-row-requires : (t : ℕ) → strict-by-lts.Need-some-row-requires (strict-by-calls t) (strict-by-at t) strict-by.Post
 strict-by-some-row-requires t c κs = search needs
 
@@ -486,7 +472,7 @@ two-real-first-real-requires-2 t c κs =
     let f = c .before .before in
     let s = f .before .before in
     let e = f .first-real .ensures .1 in
-    (fewer 6 (s .args .lines .now) _ t e (s .pre .0), rw e (s .pre .1))
+    (fewer 5 (s .args .lines .now) _ t e (s .pre .0), rw e (s .pre .1))
 
 two-real-returns :
     (t : ℕ) →
@@ -515,13 +501,12 @@ two-real-returns-2 t c =
       f .first-real .ensures .1,
     )
 
-pub +first-real+is-real+plain+strict+strict-by+trial+two-real-spec : {M : Type 1} → statement M
-+first-real+is-real+plain+strict+strict-by+trial+two-real-spec =
+pub +first-real+is-real+plain+strict-by+trial+two-real-spec : {M : Type 1} → statement M
++first-real+is-real+plain+strict-by+trial+two-real-spec =
     close
     μ-first-real
     μ-is-real
     μ-plain
-    μ-strict
     μ-strict-by
     μ-trial
     μ-two-real
@@ -543,9 +528,12 @@ pub +first-real+is-real+plain+strict+strict-by+trial+two-real-spec : {M : Type 1
     (is-real-at t)
     is-real.Post
     (is-real-eye-on-requires t)
-    (is-real-strict-requires t)
+    (is-real-rows-on-requires t)
+    (is-real-some-row-requires t)
+    (is-real-returns t)
+    (is-real-strict-by-requires t)
     (is-real-is-none-requires t)
-    (is-real-returns t))
+    (is-real-returns-2 t))
     (λ t. plain-lts.spec (plain-calls t)
     (plain-at t)
     plain.Post
@@ -558,14 +546,6 @@ pub +first-real+is-real+plain+strict+strict-by+trial+two-real-spec : {M : Type 1
     (plain-returns-3 t)
     (plain-returns-4 t)
     (plain-returns-5 t))
-    (λ t. strict-lts.spec (strict-calls t)
-    (strict-at t)
-    strict.Post
-    (strict-cell-on-requires t)
-    (strict-returns t)
-    (strict-rows-on-requires t)
-    (strict-strict-by-requires t)
-    (strict-returns-2 t))
     (λ t. strict-by-lts.spec (strict-by-calls t)
     (strict-by-at t)
     strict-by.Post
