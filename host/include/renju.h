@@ -189,6 +189,13 @@ uint32_t renju_turn(const uint8_t *cells, size_t cells_len, uint8_t view, uint8_
 /* The code of the point that a view sends a point to. Refusals 8, 12. */
 uint32_t renju_turn_point(uint8_t code, uint8_t view);
 
+/* The view that equals a view followed by the next one: RENJU_LEFT_RIGHT, then RENJU_QUARTER_RIGHT
+ * is RENJU_ASCENDING, and the other way round RENJU_DESCENDING. Refusal 12. */
+uint32_t renju_view_then(uint8_t view, uint8_t next);
+
+/* The view that takes a view back. Refusal 12. */
+uint32_t renju_view_back(uint8_t view);
+
 /* A line of 5 to 15 cells alone, by the masks of its stones, bit i for cell i: where a colour's
  * rows of a kind start, as a mask. Refusals 10 for the size, 9, 12. */
 uint32_t renju_line_starts(uint16_t blacks, uint16_t whites, uint8_t size, uint8_t colour,

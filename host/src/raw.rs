@@ -118,6 +118,23 @@ mod ffi {
         /// assert_eq!(renju_turn_point(225, 1), 8 << 16);
         /// ```
         pub safe fn renju_turn_point(code: u8, view: u8) -> u32;
+        /// The view that equals a view followed by the next one. Refusal 12.
+        ///
+        /// ```
+        /// # use renju::raw::*;
+        /// assert_eq!(renju_view_then(4, 1), 6);
+        /// assert_eq!(renju_view_then(1, 4), 7);
+        /// assert_eq!(renju_view_then(8, 0), 12 << 16);
+        /// ```
+        pub safe fn renju_view_then(view: u8, next: u8) -> u32;
+        /// The view that takes a view back. Refusal 12.
+        ///
+        /// ```
+        /// # use renju::raw::*;
+        /// assert_eq!(renju_view_back(1), 3);
+        /// assert_eq!(renju_view_back(8), 12 << 16);
+        /// ```
+        pub safe fn renju_view_back(view: u8) -> u32;
         /// Where a colour's rows of a kind start on a line alone: a mask, bit j for
         /// cell j. Refusals 10 (size), 9, 12.
         ///
@@ -217,6 +234,7 @@ mod ffi {
 }
 
 pub use ffi::{renju_line_eyes, renju_line_starts, renju_line_starts_on, renju_turn_point};
+pub use ffi::{renju_view_back, renju_view_then};
 
 // SAFETY of every call below: a slice's pointer and length name bytes that may be read, and
 // written where the slice is `&mut`, until the call returns; the functions keep no pointer and

@@ -1,6 +1,8 @@
-//! The eight views of the board.
+//! The eight views of the board, and one after another.
 
 use crate::Refusal;
+use crate::raw::{renju_view_back, renju_view_then};
+use crate::refusal::given;
 
 /// One of the eight ways to lay the board before a player: four turns, and
 /// four mirrors (section 6 of document 01). The first letter is x, to the
@@ -93,23 +95,41 @@ impl View {
         })
     }
 
-    /// The view that turns this one back: a point that a player names in
-    /// his own view is the server's point in the inverse view.
+    /// The view of a number that the archive gave: 0 to 7, by contract.
+    fn given(number: u16) -> Self {
+        Self::ALL[usize::from(number & 7)]
+    }
+
+    /// The view that equals this one followed by another: whoever has turned
+    /// the picture several times keeps one view. Order matters.
+    ///
+    /// ```
+    /// use renju::{Point, View};
+    ///
+    /// let (mirror, turn) = (View::LeftRight, View::QuarterRight);
+    /// assert_eq!(mirror.then(turn), View::Ascending);
+    /// assert_eq!(turn.then(mirror), View::Descending);
+    /// let h9: Point = "H9".parse()?;
+    /// assert_eq!(h9.turned(mirror).turned(turn), h9.turned(mirror.then(turn)));
+    /// # Ok::<(), renju::Refusal>(())
+    /// ```
+    pub fn then(self, next: Self) -> Self {
+        Self::given(given(renju_view_then(self.number(), next.number())))
+    }
+
+    /// The view that takes this one back: a point that a player names in his
+    /// own view is the server's point in the view back.
     ///
     /// ```
     /// use renju::{Point, View};
     ///
     /// let h9: Point = "H9".parse()?;
     /// let view = View::QuarterRight;
-    /// assert_eq!(h9.turned(view).turned(view.inverse()), h9);
+    /// assert_eq!(h9.turned(view).turned(view.back()), h9);
+    /// assert_eq!(view.then(view.back()), View::Same);
     /// # Ok::<(), renju::Refusal>(())
     /// ```
-    pub const fn inverse(self) -> Self {
-        match self {
-            Self::QuarterRight => Self::QuarterLeft,
-            Self::QuarterLeft => Self::QuarterRight,
-            // Half a turn and the mirrors undo themselves.
-            same => same,
-        }
+    pub fn back(self) -> Self {
+        Self::given(given(renju_view_back(self.number())))
     }
 }

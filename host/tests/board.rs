@@ -3,6 +3,7 @@
 mod common;
 
 use common::{Dice, boards};
+use renju::raw::{renju_view_back, renju_view_then};
 use renju::{CELLS, Cells, Colour, DIAGRAM, PRETTY, Point, Refusal, View};
 use std::collections::HashSet;
 
@@ -188,7 +189,7 @@ fn views_of_points() {
                 _ => (14 - y, 14 - x),
             };
             assert_eq!(Ok(point.turned(view)), Point::new(a, b));
-            assert_eq!(point.turned(view).turned(view.inverse()), point);
+            assert_eq!(point.turned(view).turned(view.back()), point);
         }
     }
 }
@@ -201,8 +202,62 @@ fn views_of_boards() {
             for point in Point::all() {
                 assert_eq!(turned.stone(point.turned(view)), cells.stone(point));
             }
-            assert_eq!(turned.turned(view.inverse()), cells);
+            assert_eq!(turned.turned(view.back()), cells);
         }
         assert_eq!(HashSet::from(views).len(), 8);
+    }
+}
+
+/// One view after another: of all 64 pairs, each by every point, by boards and by their lists.
+#[test]
+fn views_one_after_another() {
+    assert_eq!(View::LeftRight.then(View::QuarterRight), View::Ascending);
+    assert_eq!(View::QuarterRight.then(View::LeftRight), View::Descending);
+    let pairs = View::ALL.map(|first| View::ALL.map(|second| (first, second)));
+    for (first, second) in pairs.into_iter().flatten() {
+        let both = first.then(second);
+        for point in Point::all() {
+            let twice = point.turned(first).turned(second);
+            assert_eq!(point.turned(both), twice, "{first:?}, then {second:?}");
+        }
+        for cells in boards(3, 7) {
+            let twice = cells.turned(first).turned(second);
+            assert_eq!(cells.turned(both), twice);
+            let list = cells.forbidden_points();
+            let turned = list
+                .iter()
+                .map(|cross| (cross.point.turned(both), cross.verdict));
+            let mut turned: Vec<_> = turned.collect();
+            turned.sort_by_key(|(point, _)| point.code());
+            let asked = twice.forbidden_points();
+            assert!(
+                asked
+                    .iter()
+                    .map(|cross| (cross.point, cross.verdict))
+                    .eq(turned)
+            );
+        }
+        for third in View::ALL {
+            assert_eq!(both.then(third), first.then(second.then(third)));
+        }
+    }
+    for view in View::ALL {
+        assert_eq!(view.then(View::Same), view);
+        assert_eq!(View::Same.then(view), view);
+        assert_eq!(view.then(view.back()), View::Same);
+        assert_eq!(view.back().then(view), View::Same);
+    }
+}
+
+/// Refusal 12 for either view, at every number over 7.
+#[test]
+fn views_that_are_none() {
+    for number in 8..=u8::MAX {
+        for good in 0..8 {
+            assert_eq!(renju_view_then(number, good), 12 << 16);
+            assert_eq!(renju_view_then(good, number), 12 << 16);
+        }
+        assert_eq!(renju_view_then(number, number), 12 << 16);
+        assert_eq!(renju_view_back(number), 12 << 16);
     }
 }

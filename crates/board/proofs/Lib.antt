@@ -4,3 +4,5 @@
 pub mod Given
 -- any sequence of calls acts as on a plain map
 pub mod Mapped
+-- a board turned by one view and then by another, and turned back
+pub mod Turned

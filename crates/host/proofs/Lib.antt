@@ -8,3 +8,5 @@ pub mod Words
 pub mod Equal
 -- a game's report handed out, byte by byte
 pub mod Handed
+-- cells turned by one view and then by another, and turned back, of the calls
+pub mod Turned

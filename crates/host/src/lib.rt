@@ -9,6 +9,7 @@ mod second_referee;
 mod tagged;
 mod texts;
 mod verdicts;
+mod views;
 
 pub use changes::renju_put;
 pub use changes::renju_remove;
@@ -39,3 +40,5 @@ pub use texts::renju_to_pretty_string;
 pub use texts::renju_to_string;
 pub use verdicts::renju_forbidden;
 pub use verdicts::renju_forbidden_strict;
+pub use views::renju_view_back;
+pub use views::renju_view_then;

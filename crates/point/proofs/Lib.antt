@@ -8,5 +8,7 @@ pub mod Stored
 pub mod Refused
 -- a number over 7 is sent where view 7 sends
 pub mod Viewed
+-- one view after another, of the calls: a point turned twice, and turned back
+pub mod Followed
 -- steps that may be negative: the cell that they reach, and the index there
 pub mod Steps

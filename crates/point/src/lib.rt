@@ -1,6 +1,7 @@
 // Points, the lines through them and the keys of the stored lines: point.rs, and the addresses of grid.rs. A direction is a number, 0 to 3,
-// and a point a code, 0 to 224. The fronts (`Point`, `Index`, `line_key`, `line_from_key`, `turn_point`) refuse every other number. The rest
-// are inner functions, for crates above that have tested their numbers: total, and each says what it gives for a number that is none.
+// and a point a code, 0 to 224. The fronts (`Point`, `Index`, `line_key`, `line_from_key`, `turn_point`, `view_then`, `view_back`) refuse
+// every other number. The rest are inner functions, for crates above that have tested their numbers: total, and each says what it gives for a
+// number that is none.
 mod answer;
 mod index;
 mod key;
@@ -35,4 +36,6 @@ pub use table::addresses;
 pub use view::turn_point;
 pub use view::turned;
 pub use view::undone;
+pub use view::view_back;
 pub use view::view_refusal;
+pub use view::view_then;

@@ -1,13 +1,14 @@
-// The eight views of a point (section 6).
+// The eight views of a point (section 6), and one after another (document 02, No. 9).
 use super::index::code_refusal;
 use super::lines::wide_less;
 use rules::NumberAnswer;
 use rules::first;
 use rules::unless;
 ghost use mathlib.Core.Path.{_≡_};
+ghost use lib.ListN.{getD};
 ghost use Rattle.rules.specs.Refusals.{first, codeRefusal, viewRefusal};
 ghost use Rattle.rules.specs.Answers.{numberAnswer};
-ghost use Rattle.rules.specs.Views.{turn, undo};
+ghost use Rattle.rules.specs.Views.{turn, undo, thenView, thenRow};
 
 // 12 for a view over 7.
 pub fn view_refusal(view: u8) -> u8
@@ -57,4 +58,45 @@ pub fn turn_point(code: u8, view: u8) -> NumberAnswer
         return NumberAnswer::Refused(refused);
     }
     NumberAnswer::Is(turned(code, view) as u8)
+}
+
+// The view that equals a view followed by the next one. Order matters: 4 then 1 is 6, 1 then 4 is 7.
+pub fn view_then(view: u8, next: u8) -> NumberAnswer
+    ensures { λ r. ⌜ r ≡ numberAnswer (first (viewRefusal view) (viewRefusal next)) (thenView view next) ⌝ }
+{
+    NumberAnswer::of(
+        first(view_refusal(view), view_refusal(next)),
+        followed(view, next),
+    )
+}
+
+// The view that takes a view back.
+pub fn view_back(view: u8) -> NumberAnswer
+    ensures { λ r. ⌜ r ≡ numberAnswer (viewRefusal view) (undo view) ⌝ }
+{
+    NumberAnswer::of(view_refusal(view), undone(view))
+}
+
+// A view followed by the next, by the table; 0 where the next is none of the eight.
+fn followed(view: u8, next: u8) -> u8
+    ensures { λ r. ⌜ r ≡ getD (thenRow view) next 0 ⌝ }
+{
+    let row = then_row(view);
+    if next < 8 { row[next as usize] } else { 0 }
+}
+
+// What a view followed by each of the eight is: the table of 64, row by row. A view over 7 is taken for 7.
+fn then_row(view: u8) -> [u8; 8]
+    ensures { λ r. ⌜ r ≡ thenRow view ⌝ }
+{
+    match view {
+        0 => [0, 1, 2, 3, 4, 5, 6, 7],
+        1 => [1, 2, 3, 0, 7, 6, 4, 5],
+        2 => [2, 3, 0, 1, 5, 4, 7, 6],
+        3 => [3, 0, 1, 2, 6, 7, 5, 4],
+        4 => [4, 6, 5, 7, 0, 2, 1, 3],
+        5 => [5, 7, 4, 6, 2, 0, 3, 1],
+        6 => [6, 5, 7, 4, 3, 1, 0, 2],
+        _ => [7, 4, 6, 5, 1, 3, 2, 0],
+    }
 }

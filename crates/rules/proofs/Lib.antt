@@ -54,6 +54,8 @@ pub mod Listed
 pub mod Eight
 -- the eight views: the same verdicts at the turned point, and the turned list
 pub mod Views
+-- one view after another: which view that is; grouping, view 0 and the return, once for all that is turned, and of points, cells and lists
+pub mod Composed
 -- what a five is, for Black and for White; the Fours before the stone tell it; it is the same in all eight views
 pub mod Fives
 -- C1 to C12; beside them the boards that section 9 and document 02, No. 6, turn

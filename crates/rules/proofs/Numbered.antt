@@ -43,7 +43,7 @@ module _ (s : ℕ → Bool) where
       go true l = omega arith
       go false l = omega arith
 
-  first-on : (n j : ℕ) → firstOf s n j < 64 → T (s (firstOf s n j))
+  pub first-on : (n j : ℕ) → firstOf s n j < 64 → T (s (firstOf s n j))
   unfolding firstOf
   first-on zero j h = absurd (omega arith)
   first-on (suc n) j h = go (s j) refl (first-on n (suc j)) h

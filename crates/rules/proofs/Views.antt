@@ -125,17 +125,22 @@ module _ (v : ℕ) (hv : v < 8) (kind : ℕ → ℕ) where
           ∙ insert-pairs (kind p) (turn v p) (later (suc p)) (later p) z gone here (later-next p) 0 225 refl (omega arith)
           (omega (arith, turn-lt v p hv hp))
 
+-- a list of kinds by code, turned, has at each turned point the kind of the point
+pub pairs-view : (v : ℕ) (kind : ℕ → ℕ) → v < 8 → turnList v (pairs kind 0 225) ≡ pairs (λ q. kind (turn (undo v) q)) 0 225
+pairs-view v kind hv =
+    turn-from v hv kind 0 225 refl
+    ∙ pairs-same (later v hv kind 0) (λ q. kind (turn (undo v) q)) 0 225 (λ q x y. later-in v hv kind 0 q (omega arith))
+
 -- THE LIST: the list of the turned board is the turned list
 pub list-view : (v : ℕ) (cells : List ℕ) → v < 8 → length cells ≡ 225 → forbiddenList (turnCells v cells) ≡ turnList v (forbiddenList cells)
 list-view v cells hv l =
     list-pairs (turnCells v cells)
-    ∙ pairs-same (kinds (turnCells v cells)) (later v hv (kinds cells) 0) 0 225
+    ∙ pairs-same (kinds (turnCells v cells)) (λ q. kinds cells (turn (undo v) q)) 0 225
     (λ q x y.
     let hq : q < 225 = omega arith in
     ap (kinds (turnCells v cells)) (sym (turn-home v q hv hq))
-    ∙ ap verdictNo (strict-view v cells (turn (undo v) q) hv l (turn-lt (undo v) q (undo-lt v hv) hq))
-    ∙ sym (later-in v hv (kinds cells) 0 q (omega arith)))
-    ∙ sym (turn-from v hv (kinds cells) 0 225 refl)
+    ∙ ap verdictNo (strict-view v cells (turn (undo v) q) hv l (turn-lt (undo v) q (undo-lt v hv) hq)))
+    ∙ sym (pairs-view v (kinds cells) hv)
     ∙ ap (turnList v) (sym (list-pairs cells))
 
 -- so the turned list, too, names each turned point once with its kind, in code order

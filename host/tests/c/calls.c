@@ -49,6 +49,10 @@ static void points(void) {
     printf("A15 is %u\n", (unsigned)out[14]);
     say("turn_point", renju_turn_point(0, RENJU_QUARTER_RIGHT), 0);
     say("turn_point", renju_turn_point(225, RENJU_SAME), 0);
+    say("view_then", renju_view_then(RENJU_LEFT_RIGHT, RENJU_QUARTER_RIGHT), 0);
+    say("view_then", renju_view_then(RENJU_QUARTER_RIGHT, RENJU_LEFT_RIGHT), 0);
+    say("view_then", renju_view_then(RENJU_SAME, 8), 0);
+    say("view_back", renju_view_back(RENJU_QUARTER_RIGHT), 0);
 }
 
 static void second_verdicts(void) {

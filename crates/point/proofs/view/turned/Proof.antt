@@ -102,8 +102,8 @@ returns-8 c =
     simp (
       c .before .before .wide-less .ensures,
       c .before .wide-less2 .ensures,
-      viewed-last (a .view) (a .code / 15) (a .code % 15)
-          (h .0 .0 .0 .0 .0 .0 .1) (h .0 .0 .0 .0 .0 .1) (h .0 .0 .0 .0 .1) (h .0 .0 .0 .1) (h .0 .0 .1) (h .0 .1) (h .1),
+      viewed-last (a .view) (h .0 .0 .0 .0 .0 .0 .1) (h .0 .0 .0 .0 .0 .1) (h .0 .0 .0 .0 .1) (h .0 .0 .0 .1) (h .0 .0 .1) (h .0 .1) (h .1)
+          (a .code / 15) (a .code % 15),
     )
 
 pub turned-spec : {M : Type 1} → statement M
