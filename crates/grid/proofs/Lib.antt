@@ -14,3 +14,5 @@ pub mod RowStarts
 pub mod ThroughPoint
 -- what an address tells of a write, a mark, masks and starts
 pub mod Placed
+-- lines built by the table of addresses are the lines of the cells
+pub mod Built

@@ -19,7 +19,7 @@ use Rattle.point.specs.declared.place.Place.{Place}
 use Rattle.point.specs.Places.{hasPlace, placeOf, placeBy, addresses}
 use Rattle.point.proofs.Stored.{place-stored, place-has, place-key, place-cell, place-key-lt, place-by, by-key-lt}
 use Rattle.grid.specs.Lines.{entryNo, maskOn, maskThrough, masksThrough, maskBy, masksBy, shows, writeLine, writeIn}
-use Rattle.grid.specs.Lines.{markLine, markIn, markOn, markPlace, markBy, startsIn, startsAt}
+use Rattle.grid.specs.Lines.{markLine, markIn, markOn, markPlace, markBy, startsIn, startsOn, startsAt, startsBy}
 use Rattle.rules.proofs.Logic.{decide}
 use Rattle.grid.proofs.Lines.{mask-entry}
 
@@ -125,3 +125,11 @@ module _ (r : Place) (d p : ℕ) (e : r ≡ placeOf d p) where
         | inl s ↦ rw s (place-starts l who kind s)
         | inr s ↦ rw s (nowhere-starts l who kind s)
       ]
+
+pub starts-by : (l table : List ℕ) (p : ℕ) (who : Player) (kind : RowKind) → table ≡ addresses
+    → startsBy l table p who kind ≡ startsOn l p who kind
+unfolding startsBy startsOn tab
+starts-by l table p who kind e =
+    let at : (d : ℕ) → startsAt l (placeBy table d p) who kind ≡ startsIn l p who kind d =
+    λ d. starts-at (placeBy table d p) d p (by-addresses d p refl e) l who kind in
+    rw (at 0, at 1, at 2, at 3)

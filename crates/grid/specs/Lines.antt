@@ -3,10 +3,10 @@
 use mathlib.Core.Path.{_≡_}
 use mathlib.Core.Bool.{Bool, true, false, _&&_, cond}
 use mathlib.Core.List.{List, [], _∷_}
-use Prim.Native.Nat.{ℕ, _+_, _%_}
+use Prim.Native.Nat.{ℕ, zero, suc, _+_, _%_}
 use lib.Dec.{eqb, ltb}
 use lib.ListN.{getD, set}
-use Rattle.rules.specs.Numbers.{colourNo, isBlack, opponentOf}
+use Rattle.rules.specs.Numbers.{colourNo, playerOf, isColour, isBlack, opponentOf}
 use Rattle.rules.specs.Refusals.{unsound, unless}
 use Rattle.rules.specs.Tools.{tab}
 use Rattle.rules.specs.Bit.{bit, maskOf}
@@ -16,6 +16,7 @@ use Rattle.rules.specs.Grid.{Change, Put, Remove, stoneAt, valueOf}
 use Rattle.rules.specs.declared.Player.{Player}
 use Rattle.rules.specs.declared.Player.the-variants.{Black, White}
 use Rattle.rules.specs.declared.RowKind.{RowKind}
+use Rattle.lent.specs.Lists.{zeros}
 use Rattle.masks.specs.Masks.{placed}
 use Rattle.point.specs.Places.{hasPlace, placeBy}
 use Rattle.point.specs.declared.place.Place.{Place}
@@ -133,6 +134,23 @@ addOn l p r = markOn l p r true
 abbrev pub liftOn : List ℕ → ℕ → Player → List ℕ
 liftOn l p r = markOn l p r false
 
+-- ---- the lines of cells, and whether lines are sound, by a lent table of addresses; by section 3's it is as above (proofs/Built.antt)
+
+-- the lines of the first n cells, stone by stone; of all cells
+unfoldable pub builtBy : List ℕ → List ℕ → ℕ → List ℕ
+builtBy cells table zero = zeros 144
+builtBy cells table (suc n) =
+    cond (isColour (getD cells n 0)) (markBy (builtBy cells table n) table n (playerOf (getD cells n 0)) true) (builtBy cells table n)
+
+abbrev pub linesBy : List ℕ → List ℕ → List ℕ
+linesBy cells table = builtBy cells table 225
+
+abbrev pub isSoundBy : List ℕ → List ℕ → Bool
+isSoundBy l table = sameList l (linesBy (cellsOf l) table)
+
+abbrev pub refusalBy : List ℕ → List ℕ → ℕ
+refusalBy l table = unless (isSoundBy l table) unsound
+
 -- ---- a sequence of puts and removes, one after the other
 unfoldable pub playLines : List Change → List ℕ → List ℕ
 playLines [] l = l
@@ -156,3 +174,7 @@ startsAt l a r k =
 
 unfoldable pub startsOn : List ℕ → ℕ → Player → RowKind → List ℕ
 startsOn l p r k = tab 4 (startsIn l p r k)
+
+-- .. by a lent table (proofs/Placed.antt, starts-by)
+unfoldable pub startsBy : List ℕ → List ℕ → ℕ → Player → RowKind → List ℕ
+startsBy l table p r k = tab 4 (λ d. startsAt l (placeBy table d p) r k)

@@ -7,7 +7,7 @@ use rules::Player;
 use rules::is_colour;
 use rules::unless;
 ghost use mathlib.Core.Path.{_≡_};
-ghost use Rattle.grid.specs.Lines.{cellOf, cellsOf, linesOf, sameList, isSound, linesRefusal};
+ghost use Rattle.grid.specs.Lines.{cellOf, cellsOf, linesOf, linesBy, sameList, isSound, isSoundBy, linesRefusal, refusalBy};
 
 // What stands at a point, read off its column: 0 empty, 1 black, 2 white. A code over 224 is no point; its sum leads to a cell of one of
 // the first horizontal lines.
@@ -31,18 +31,25 @@ pub fn cells_on(lines: &[u16; 144]) -> [u8; 225]
     cells
 }
 
-// The lines of a board with these cells, a cell past the slice's end for empty. The stones alone are walked, and each is added where none
-// stands yet, so its own colour's masks are all that change.
+// The lines of a board with these cells, a cell past the slice's end for empty.
 pub fn lines_of(cells: &[u8]) -> [u16; 144]
     ensures { λ r. ⌜ r ≡ linesOf (now (cells .entry)) ⌝ }
 {
     let table = addresses();
+    lines_by(cells, &table)
+}
+
+// The same by a lent table of addresses, for whoever then asks on these lines. The stones alone are walked, and each is added where none
+// stands yet, so its own colour's masks are all that change.
+pub fn lines_by(cells: &[u8], table: &[u16; 900]) -> [u16; 144]
+    ensures { λ r. ⌜ r ≡ linesBy (now (cells .entry)) (now (table .entry)) ⌝ }
+{
     let mut lines = [0u16; 144];
     let mut i = 0u8;
     while i < 225 {
         let value = value_at(cells, i as usize);
         if is_colour(value) {
-            add_on(&mut lines, &table, i, Player::or_white(value));
+            add_on(&mut lines, table, i, Player::or_white(value));
         }
         i += 1;
     }
@@ -53,8 +60,16 @@ pub fn lines_of(cells: &[u8]) -> [u16; 144]
 pub fn is_sound_on(lines: &[u16; 144]) -> bool
     ensures { λ r. ⌜ r ≡ isSound (now (lines .entry)) ⌝ }
 {
+    let table = addresses();
+    is_sound_by(lines, &table)
+}
+
+// .. by a lent table.
+fn is_sound_by(lines: &[u16; 144], table: &[u16; 900]) -> bool
+    ensures { λ r. ⌜ r ≡ isSoundBy (now (lines .entry)) (now (table .entry)) ⌝ }
+{
     let cells = cells_on(lines);
-    let built = lines_of(&cells);
+    let built = lines_by(&cells, table);
     same_lines(*lines, built)
 }
 
@@ -63,6 +78,13 @@ pub fn lines_refusal(lines: &[u16; 144]) -> u8
     ensures { λ r. ⌜ r ≡ linesRefusal (now (lines .entry)) ⌝ }
 {
     unless(is_sound_on(lines), 9)
+}
+
+// .. by a lent table.
+pub fn lines_refusal_by(lines: &[u16; 144], table: &[u16; 900]) -> u8
+    ensures { λ r. ⌜ r ≡ refusalBy (now (lines .entry)) (now (table .entry)) ⌝ }
+{
+    unless(is_sound_by(lines, table), 9)
 }
 
 fn same_lines(a: [u16; 144], b: [u16; 144]) -> bool

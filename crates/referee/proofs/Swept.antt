@@ -18,6 +18,8 @@ use Rattle.rules.proofs.Bits.{bit-mask, bit-none}
 use Rattle.rules.proofs.Verdicts.{unasked-none}
 use Rattle.sweep.specs.Marks.{marks, askedAt}
 use Rattle.sweep.proofs.Marks.{mark-at, column-none}
+use Rattle.point.specs.Places.{addresses}
+use Rattle.grid.specs.Lines.{cellsOf, Sound}
 use Rattle.referee.specs.Referee.{columnsOf}
 
 module _ (cells : List ℕ) (long : length cells ≡ 225) where
@@ -64,3 +66,8 @@ pub marked-is : (cells : List ℕ) (p : ℕ) {m : List ℕ} {b : Bool} → p < 2
     → b ≡ bit (getD m (yOf p + 5) 0) (xOf p) → b ≡ askedAt cells p
 marked-is cells p hp em eb =
     eb ∙ ap (λ (l : List ℕ). bit (getD l (yOf p + 5) 0) (xOf p)) em ∙ mark-at (askedAt cells) p hp
+
+-- what is asked of lines m that are the lines l at the start
+pub on-same : (l : List ℕ) {m asked table : List ℕ} {p : ℕ} → m ≡ l → Sound l → p < 225 → asked ≡ marks (askedAt (cellsOf l))
+    → table ≡ addresses → Sound m × (p < 225) × (asked ≡ marks (askedAt (cellsOf m))) × (table ≡ addresses)
+on-same l e s hp a t = (subst Sound (sym e) s, hp, a ∙ ap (λ (x : List ℕ). marks (askedAt (cellsOf x))) (sym e), t)

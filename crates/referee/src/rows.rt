@@ -3,7 +3,7 @@ use super::cycle::plain;
 use super::cycle::two_real;
 use grid::masks_on;
 use grid::put_on;
-use grid::row_starts_on;
+use grid::row_starts_by;
 use near::Rows;
 use near::rows_near;
 use point::addresses;
@@ -46,8 +46,8 @@ pub(crate) fn real_on(lines: &mut [u16; 144], code: u8) -> bool
     requires { ⌜ Sound (now lines) × (code < 225) ⌝ }
     ensures { λ r. ⌜ (r ≡ realDouble strictOf (cellsOf (now (lines .entry))) code) × (now (lines .exit) ≡ now (lines .entry)) ⌝ }
 {
-    let threes = row_starts_on(lines, code, Player::Black, RowKind::Three);
     let table = addresses();
+    let threes = row_starts_by(lines, &table, code, Player::Black, RowKind::Three);
     two_real(lines, &table, code, threes)
 }
 

@@ -1,6 +1,6 @@
 // One point of a board given as cell bytes: only the four lines through it are read, unless there may be a trial.
-use super::cycle::strict_by;
-use grid::lines_of;
+use super::cycle::trial;
+use grid::lines_by;
 use near::Rows;
 use near::more_than_one;
 use near::rows_near;
@@ -15,14 +15,15 @@ ghost use mathlib.Core.Path.{_≡_};
 ghost use mathlib.Core.Bool.{_&&_, _||_, cond};
 ghost use Prim.Native.Nat.{_<_};
 ghost use lib.Dec.{eqb};
+ghost use lib.ListN.{getD};
 ghost use Rattle.rules.specs.Bit.{bit, maskOf};
 ghost use Rattle.rules.specs.Point.{lineNo};
-ghost use Rattle.rules.specs.Grid.{stoneAt, startsOf};
-ghost use Rattle.rules.specs.Forbidden.{strictOf, someRow, moreThanOne, blackRows};
+ghost use Rattle.rules.specs.Grid.{stoneAt, startMasks, startsOf, rowsThrough};
+ghost use Rattle.rules.specs.Forbidden.{strictOf, someRow, moreThanOne, blackRows, withBlack, realDouble};
 ghost use Rattle.rules.specs.declared.Player.the-variants.{Black, White};
+ghost use Rattle.rules.specs.declared.RowKind.the-variants.{Two};
+ghost use Rattle.rules.specs.declared.Verdict.the-variants.{None, DoubleThree};
 ghost use Rattle.near.specs.Rows.{RowsAre};
-ghost use Rattle.lent.specs.Lists.{zeros};
-ghost use Rattle.grid.specs.Lines.{linesOf};
 ghost use Rattle.cells.specs.Cells.{Cells};
 
 // The masks of one line.
@@ -31,8 +32,8 @@ struct LineStones {
     whites: u16,
 }
 
-// The strict verdict. Where no kind may apply it is none: that is seen first, so that not even room for lines is laid out. They are built
-// only where more than one Two may lead to a trial.
+// The strict verdict, in section 5's order by the rows through the point. Lines, and the table of addresses for them, are laid out only
+// where a trial is all that is left to ask.
 pub(crate) fn strict_of(cells: &[u8], code: u8) -> Verdict
     requires { ⌜ Cells (now cells) × (code < 225) ⌝ }
     ensures { λ r. ⌜ r ≡ strictOf (now (cells .entry)) code ⌝ }
@@ -41,23 +42,37 @@ pub(crate) fn strict_of(cells: &[u8], code: u8) -> Verdict
         return Verdict::None;
     }
     let rows = rows_of(cells, code);
-    if may_forbid(rows) {
-        let twos = rows.twos;
-        let mut lines = lines_if(more_than_one(twos), cells);
-        let table = addresses();
-        return strict_by(&mut lines, &table, code, rows);
+    let fours = rows.fours;
+    let overlinings = rows.overlinings;
+    let swords = rows.swords;
+    let twos = rows.twos;
+    if some_row(fours) {
+        return Verdict::None;
+    }
+    if some_row(overlinings) {
+        return Verdict::Overline;
+    }
+    if more_than_one(swords) {
+        return Verdict::DoubleFour;
+    }
+    if more_than_one(twos) {
+        return tried_of(cells, code, twos);
     }
     Verdict::None
 }
 
-// The stored lines, where they are wanted.
-pub(crate) fn lines_if(wanted: bool, cells: &[u8]) -> [u16; 144]
-    ensures { λ r. ⌜ r ≡ cond wanted (linesOf (now (cells .entry))) (zeros 144) ⌝ }
+// What a trial says at an empty point through which more than one Two goes. The lines are built by the table that the trial then reads.
+fn tried_of(cells: &[u8], code: u8, twos: [u16; 4]) -> Verdict
+    requires { ⌜ Cells (now cells) × (code < 225) × (getD (now cells) code 0 ≡ 0)
+        × (twos ≡ startMasks (rowsThrough Black Two (now cells) code)) ⌝ }
+    ensures { λ r. ⌜ r ≡ cond (realDouble strictOf (withBlack (now (cells .entry)) code) code) DoubleThree None ⌝ }
 {
-    if wanted {
-        return lines_of(cells);
+    let table = addresses();
+    let mut lines = lines_by(cells, &table);
+    if trial(&mut lines, &table, code, twos) {
+        return Verdict::DoubleThree;
     }
-    [0; 144]
+    Verdict::None
 }
 
 // Whether some kind may apply, by the tests that need no nested question: where Black's rows through a point are these and none passes,

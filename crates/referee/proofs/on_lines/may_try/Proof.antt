@@ -7,11 +7,14 @@ use borrow.Author.Needs.{needs}
 use Rattle.referee.proofs.on_lines.may_try.Statement.{statement}
 use Rattle.referee.proofs.on_lines.may_try.Tie as tie
 
-refusal-on-requires : tie.Need-refusal-on-requires
-refusal-on-requires c κs = search needs
+addresses-requires : tie.Need-addresses-requires
+addresses-requires c κs = search needs
+
+refusal-by-requires : tie.Need-refusal-by-requires
+refusal-by-requires c κs = c .before .before .addresses .ensures
 
 returns : tie.Need-returns
-returns c = (not-tested _ (c .before .refusal-on .ensures) (c .if1 .taken), refl)
+returns c = (not-tested _ (c .before .refusal-by .ensures) (c .if1 .taken), refl)
 
 cell-on-requires : tie.Need-cell-on-requires
 cell-on-requires c κs = search needs
@@ -19,11 +22,11 @@ cell-on-requires c κs = search needs
 returns-2 : tie.Need-returns-2
 returns-2 c =
     let o = c .before .before in
-    let a = o .before .before .before .args in
-    let (_, hp) = lines-at-in (a .lines .now) (a .code) (sym (o .before .refusal-on .ensures) ∙ o .if1 .left) in (
-      tested _ (o .before .refusal-on .ensures) (o .if1 .left) (sym (free-is (a .lines .now) (a .code) hp (c .cell-on .ensures))),
+    let a = o .before .before .before .before .before .args in
+    let (_, hp) = lines-at-in (a .lines .now) (a .code) (sym (o .before .refusal-by .ensures) ∙ o .if1 .left) in (
+      tested _ (o .before .refusal-by .ensures) (o .if1 .left) (sym (free-is (a .lines .now) (a .code) hp (c .cell-on .ensures))),
       refl,
     )
 
 pub may-try-spec : {M : Type 1} → statement M
-may-try-spec = tie.close (tie.spec refusal-on-requires returns cell-on-requires returns-2)
+may-try-spec = tie.close (tie.spec addresses-requires refusal-by-requires returns cell-on-requires returns-2)

@@ -6,27 +6,27 @@ use borrow.Author.Needs.{needs}
 use Rattle.referee.proofs.on_lines.strict_on.Statement.{statement}
 use Rattle.referee.proofs.on_lines.strict_on.Tie as tie
 
-refusal-on-requires : tie.Need-refusal-on-requires
-refusal-on-requires c κs = search needs
-
-returns : tie.Need-returns
-returns c = (not-ruled _ (c .before .refusal-on .ensures) (c .if1 .taken), refl)
-
 addresses-requires : tie.Need-addresses-requires
 addresses-requires c κs = search needs
 
+refusal-by-requires : tie.Need-refusal-by-requires
+refusal-by-requires c κs = c .before .before .addresses .ensures
+
+returns : tie.Need-returns
+returns c = (not-ruled _ (c .before .refusal-by .ensures) (c .if1 .taken), refl)
+
 strict-requires : tie.Need-strict-requires
 strict-requires c κs =
-    let t = c .before .before in
-    let o = t .before in
-    let s = o .before .before .before in
-    let (sound, point) = lines-at-in (s .args .lines .now) (s .args .code) (sym (o .before .refusal-on .ensures) ∙ o .if1 .left) in
+    let o = c .before .before in
+    let t = o .before .before .before .before in
+    let s = t .before in
+    let (sound, point) = lines-at-in (s .args .lines .now) (s .args .code) (sym (o .before .refusal-by .ensures) ∙ o .if1 .left) in
     (sound, point, t .addresses .ensures)
 
 returns-2 : tie.Need-returns-2
 returns-2 c =
-    let o = c .before .before .before .before in
-    (ruled _ (o .before .refusal-on .ensures) (o .if1 .left) (c .strict .ensures .0), c .strict .ensures .1)
+    let o = c .before .before .before in
+    (ruled _ (o .before .refusal-by .ensures) (o .if1 .left) (c .strict .ensures .0), c .strict .ensures .1)
 
 pub strict-on-spec : {M : Type 1} → statement M
-strict-on-spec = tie.close (tie.spec refusal-on-requires returns addresses-requires strict-requires returns-2)
+strict-on-spec = tie.close (tie.spec addresses-requires refusal-by-requires returns strict-requires returns-2)
