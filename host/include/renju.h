@@ -250,6 +250,9 @@ uint32_t renju_from_tagged(const uint8_t *record, size_t record_len, uint8_t *ou
 /* The view of a record. Refusals 15, 14, 8. */
 uint32_t renju_tagged_view(const uint8_t *record, size_t record_len);
 
+/* How many stones each side has: 256 times White's plus Black's. Refusal 9. */
+uint32_t renju_counts(const uint8_t *cells, size_t cells_len);
+
 #ifdef __cplusplus
 }
 #endif

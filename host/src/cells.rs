@@ -163,6 +163,33 @@ impl Cells {
         Colour::from_number(*byte).ok()
     }
 
+    /// How many stones each side has, and how many points are empty: the
+    /// caption of a picture.
+    ///
+    /// ```
+    /// let mut cells: renju::Cells = "H8,I9,J10".parse()?;
+    /// let counts = cells.counts();
+    /// assert_eq!((counts.black, counts.white, counts.empty), (2, 1, 222));
+    /// assert_eq!(counts.to_string(), "2 black, 1 white");
+    ///
+    /// // White in place of a black stone moves one from one count to the other.
+    /// cells.put("H8".parse()?, renju::Colour::White);
+    /// assert_eq!(cells.counts().to_string(), "1 black, 2 white");
+    /// # Ok::<(), renju::Refusal>(())
+    /// ```
+    pub fn counts(&self) -> Counts {
+        // Sound cells: never refused. Black's stones are the low byte.
+        let word = given(raw::renju_counts(&self.bytes));
+        let [white, black] = word.to_be_bytes();
+        // The three together are 225, so nothing is cut off.
+        let empty = (CELLS as u8).saturating_sub(black).saturating_sub(white);
+        Counts {
+            black,
+            white,
+            empty,
+        }
+    }
+
     /// The board in a view: at each turned point what stands at the point.
     ///
     /// ```
@@ -178,6 +205,24 @@ impl Cells {
         // Sound cells, a view and room for all of them: never refused.
         raw::renju_turn(&self.bytes, view.number(), &mut cells.bytes);
         cells
+    }
+}
+
+/// How many points are black, white and empty: 225 together.
+#[derive(Clone, Copy, Debug, PartialEq, Eq, Hash)]
+pub struct Counts {
+    /// The points with a black stone.
+    pub black: u8,
+    /// The points with a white stone.
+    pub white: u8,
+    /// The points without a stone.
+    pub empty: u8,
+}
+
+/// The stones of both sides: `2 black, 1 white`.
+impl fmt::Display for Counts {
+    fn fmt(&self, f: &mut fmt::Formatter<'_>) -> fmt::Result {
+        write!(f, "{} black, {} white", self.black, self.white)
     }
 }
 

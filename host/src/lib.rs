@@ -91,7 +91,7 @@ pub mod second;
 mod verdict;
 mod view;
 
-pub use cells::Cells;
+pub use cells::{Cells, Counts};
 pub use colour::Colour;
 pub use game::{Fault, Game, Reason, Report};
 pub use kind::Kind;

@@ -230,6 +230,7 @@ mod ffi {
             out_len: usize,
         ) -> u32;
         pub fn renju_tagged_view(record: *const u8, record_len: usize) -> u32;
+        pub fn renju_counts(cells: *const u8, cells_len: usize) -> u32;
     }
 }
 
@@ -700,4 +701,19 @@ pub fn renju_from_tagged(record: &[u8], out: &mut [u8]) -> u32 {
 /// ```
 pub fn renju_tagged_view(record: &[u8]) -> u32 {
     unsafe { ffi::renju_tagged_view(record.as_ptr(), record.len()) }
+}
+
+/// How many stones each side has: 256 times White's plus Black's. Refusal 9.
+///
+/// ```
+/// # use renju::raw::*;
+/// let mut cells = [0; 225];
+/// cells[112] = 1;
+/// cells[113] = 2;
+/// cells[114] = 2;
+/// assert_eq!(renju_counts(&cells), 2 << 8 | 1);
+/// assert_eq!(renju_counts(&cells[1..]), 9 << 16);
+/// ```
+pub fn renju_counts(cells: &[u8]) -> u32 {
+    unsafe { ffi::renju_counts(cells.as_ptr(), cells.len()) }
 }

@@ -145,6 +145,36 @@ fn stones_and_empty_points() {
     }
 }
 
+/// A caption that is kept in step move by move is what the points say, and no view changes it.
+#[test]
+fn counts_of_both_sides() {
+    let mut dice = Dice(20261116);
+    for mut cells in boards(40, 7) {
+        for _ in 0..60 {
+            let point = Point::from_code(dice.below(225) as u8).unwrap();
+            match Colour::from_number(dice.below(3) as u8) {
+                Ok(colour) => cells.put(point, colour),
+                Err(_) => cells.remove(point),
+            }
+            let counts = cells.counts();
+            let count = |byte| {
+                cells
+                    .as_bytes()
+                    .iter()
+                    .filter(|&&cell| cell == byte)
+                    .count()
+            };
+            let told = [counts.empty, counts.black, counts.white].map(usize::from);
+            assert_eq!(told, [count(0), count(1), count(2)]);
+            assert_eq!(told.iter().sum::<usize>(), CELLS);
+        }
+        for view in View::ALL {
+            assert_eq!(cells.turned(view).counts(), cells.counts());
+        }
+    }
+    assert_eq!(Cells::new().counts().empty, 225);
+}
+
 #[test]
 fn neighbors_line_by_line() {
     let cells = cells("H8,I9");

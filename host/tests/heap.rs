@@ -71,6 +71,7 @@ fn ask_everything(bytes: &[u8], text: &[u8], point: Point) {
         }
     }
     black_box(cells.empty_points());
+    black_box(cells.counts());
     black_box(cells.neighbors(point, 14, true)).unwrap();
     black_box(cells.forbidden(point)).unwrap();
     black_box(cells.forbidden_strict(point));

@@ -194,6 +194,7 @@ fn first_refusal_of_several() {
     refused(9, |out| renju_stones(&bad, 0, out));
     refused(12, |out| renju_stones(&good, 0, out));
     refused(9, |out| renju_empty_points(&bad, out));
+    refused(9, |_| renju_counts(&bad));
     refused(9, |out| renju_neighbors(&bad, 225, 15, true, out));
     refused(8, |out| renju_neighbors(&good, 225, 15, true, out));
     refused(12, |out| renju_neighbors(&good, 224, 15, true, out));

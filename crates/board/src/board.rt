@@ -1,6 +1,10 @@
-// A board by value: its 72 lines as 144 masks, entry k the black mask of the line of key k and entry 72 + k its white mask.
+// A board by value: its 72 lines as 144 masks, entry k the black mask of the line of key k and entry 72 + k its white mask, and how many
+// stones each side has.
 use super::answer::BoardAnswer;
 use super::answer::StartsAnswer;
+use super::count::moved_count;
+use super::count::refusal_on;
+use super::count::stones_on;
 use cells::CellsAnswer;
 use cells::cells_refusal;
 use cells::moves_cells;
@@ -9,7 +13,6 @@ use cells::turned_cells;
 use grid::cell_on;
 use grid::cells_on;
 use grid::lines_of;
-use grid::lines_refusal;
 use grid::put_on;
 use grid::remove_on;
 use lent::write_out;
@@ -33,10 +36,12 @@ ghost use Rattle.rules.specs.Views.{turnCells};
 ghost use Rattle.lent.specs.Lists.{zeros, listRefusal, listOut};
 ghost use Rattle.cells.specs.Cells.{cellsRefusal, codesRefusal, movesCells, stonesCells};
 ghost use Rattle.board.specs.Answers.{boardAnswer, putAnswer, removeAnswer, startsAnswer};
-ghost use Rattle.board.specs.Boards.{boardFrom, withLines, cells, boardOf, boardRefusal, refusalAt, refusalFor, rowsOnRefusal};
+ghost use Rattle.board.specs.Boards.{boardFrom, changedBoard, cells, boardOf, boardRefusal, refusalAt, refusalFor, rowsOnRefusal};
 
 pub struct Board {
     pub lines: [u16; 144],
+    pub blacks: u8,
+    pub whites: u8,
 }
 
 impl Board {
@@ -47,18 +52,29 @@ impl Board {
         Board::from_lines([0u16; 144])
     }
 
-    // The board that has these lines, sound or not: the one place where a board is made.
+    // The board that has these lines, sound or not, with the stones that they show counted: the one place where a board is made.
     pub fn from_lines(lines: [u16; 144]) -> Board
         ensures { λ r. ⌜ r ≡ boardFrom lines ⌝ }
     {
-        Board { lines }
+        let blacks = stones_on(&lines, Player::Black);
+        let whites = stones_on(&lines, Player::White);
+        Board {
+            lines,
+            blacks,
+            whites,
+        }
     }
 
-    // The board with other lines in place of its own.
-    pub(crate) fn with_lines(mut self, lines: [u16; 144]) -> Board
-        ensures { λ r. ⌜ r ≡ withLines self lines ⌝ }
+    // The board with lines that differ from its own at one point: the counts move by what stood there and what stands there now, and
+    // nothing is counted again.
+    pub(crate) fn with_lines(mut self, lines: [u16; 144], before: u8, after: u8) -> Board
+        ensures { λ r. ⌜ r ≡ changedBoard self lines before after ⌝ }
     {
+        let blacks = moved_count(self.blacks, before == 1, after == 1);
+        let whites = moved_count(self.whites, before == 2, after == 2);
         self.lines = lines;
+        self.blacks = blacks;
+        self.whites = whites;
         self
     }
 
@@ -101,8 +117,10 @@ impl Board {
     {
         let mut lines = self.lines;
         let refused = self.refusal_for(code, colour);
-        put_on(&mut lines, code, Player::or_white(colour));
-        BoardAnswer::of(refused, self.with_lines(lines))
+        let player = Player::or_white(colour);
+        let before = cell_on(&lines, code);
+        put_on(&mut lines, code, player);
+        BoardAnswer::of(refused, self.with_lines(lines, before, player.number()))
     }
 
     // The board with a point made empty.
@@ -111,8 +129,9 @@ impl Board {
     {
         let mut lines = self.lines;
         let refused = self.refusal_at(code);
+        let before = cell_on(&lines, code);
         remove_on(&mut lines, code);
-        BoardAnswer::of(refused, self.with_lines(lines))
+        BoardAnswer::of(refused, self.with_lines(lines, before, 0))
     }
 
     // The same by the names that board.rs gives to what leaves the first board as it is: by value it always is.
@@ -181,7 +200,7 @@ impl Board {
         ensures { λ r. ⌜ r ≡ boardRefusal self ⌝ }
     {
         let lines = self.lines;
-        lines_refusal(&lines)
+        refusal_on(&lines, self.blacks, self.whites)
     }
 
     // .. then 8 for a code over 224.

@@ -2,7 +2,9 @@
 // board are in `lists`, copies of its lines in `lines`.
 mod answer;
 mod board;
+mod count;
 
 pub use answer::BoardAnswer;
 pub use answer::StartsAnswer;
 pub use board::Board;
+pub use count::refusal_on;

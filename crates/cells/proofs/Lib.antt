@@ -8,3 +8,5 @@ pub mod Filled
 pub mod Kept
 -- any sequence of calls acts as on a plain map
 pub mod Mapped
+-- stones counted: one cell changed, the eight views, all 225 points
+pub mod Counts

@@ -1,4 +1,5 @@
--- What the contracts of `cells` cite beside the rules: cells and their refusals, cells after calls, and the answers.
+-- What the contracts of `cells` cite beside the rules: cells and their refusals, cells after calls, stones counted, and the answers.
 pub mod Cells
 pub mod Calls
+pub mod Counts
 pub mod Answers

@@ -1,11 +1,12 @@
 // What a board is: 225 cell bytes, 0 empty, 1 black, 2 white. Tested, built from moves and stones, read, changed where they stand, turned;
-// and the lists that are read off them point by point. No line is built here.
+// the lists that are read off them point by point; and how many stones there are. No line is built here.
 mod answer;
 mod build;
 mod change;
 mod codes;
 mod front;
 mod refusal;
+mod stones;
 
 pub use answer::CellsAnswer;
 pub use build::moves_cells;
@@ -23,3 +24,4 @@ pub use refusal::cells_refusal;
 pub use refusal::cells_refusal_at;
 pub use refusal::codes_refusal;
 pub use refusal::moves_refusal;
+pub use stones::counts_of;

@@ -13,12 +13,12 @@ use Rattle.rules.specs.Point.{xOf, yOf, codeOf}
 use Rattle.rules.proofs.Lists.{is-tab, tab-cong}
 use Rattle.cells.specs.Cells.{Cells}
 use Rattle.cells.specs.Answers.{cellsAnswer}
-use Rattle.grid.specs.Lines.{Sound, linesOf}
 use Rattle.grid.proofs.Lines.{cells-cellsOf}
-use Rattle.board.specs.Boards.{cells, boardOf, boardRefusal}
+use Rattle.board.specs.Boards.{cells, boardRefusal}
 use Rattle.board.specs.Answers.{answerWith, boardAnswer}
 use Rattle.board.specs.declared.board.Board.{Board}
-use Rattle.board.proofs.Given.{sound-in}
+use Rattle.board.specs.declared.answer.BoardAnswer.{BoardAnswer}
+use Rattle.board.proofs.Given.{whole-board}
 use Rattle.text.specs.Bytes.{newline, blank, comma, dot, slash, smallO, smallX, space, trim, trimStart, trimEnd, dense, has, parts}
 use Rattle.text.specs.Bytes.{ontoFirst}
 use Rattle.text.specs.Reading.{countRefusal, sizeAt, diagramRefusal, diagramCells, letterCell, diagramTextRefusal, diagramTextCells}
@@ -221,10 +221,12 @@ module _ (b : Board) (h : boardRefusal b ≡ 0) where
   -- a sound board that is written as a plain diagram reads back as the same board: `text::read_diagram` of what `write_diagram` writes
   pub reads-back : boardAnswer (diagramTextRefusal (diagramOf (cells b))) (diagramTextCells (diagramOf (cells b)))
       ≡ record { refused = 0; board = b }
-  unfolding boardAnswer answerWith boardOf Sound
+  unfolding boardAnswer answerWith
   reads-back =
-      let e : b .lines ≡ linesOf (cells b) = sound-in b h in
-      rw (diagram-pass (cells b), diagram-said (cells b) (cells-cellsOf (b .lines)), ← e)
+      rw (diagram-pass (cells b), diagram-said (cells b) (cells-cellsOf (b .lines))) (ap answer (sym (whole-board b h)))
+    where
+      answer : Board → BoardAnswer
+      answer x = record { refused = 0; board = x }
 
   -- .. and by the live entry, `text::read_board`
   pub reads-back-live : boardAnswer (readRefusal (diagramOf (cells b))) (readCells (diagramOf (cells b)))

@@ -12,7 +12,7 @@ use Rattle.rules.specs.declared.Player.{Player}
 use Rattle.rules.proofs.Logic.{decide}
 use Rattle.point.specs.Places.{addresses}
 use Rattle.cells.proofs.Filled.{filled, filled-more, filled-next, length-filled}
-use Rattle.grid.specs.Lines.{linesOf, linesBy, builtBy, cellsOf, sameList, isSound, isSoundBy, linesRefusal, refusalBy, markBy, addOn}
+use Rattle.grid.specs.Lines.{linesOf, linesBy, builtBy, markBy, addOn}
 use Rattle.grid.proofs.Placed.{mark-by}
 use Rattle.grid.proofs.Marked.{add-linesOf, skip-linesOf}
 use Rattle.grid.proofs.Same.{lines-start, lines-filled}
@@ -56,12 +56,3 @@ module _ (cells table : List ℕ) (t : table ≡ addresses) where
 
   pub lines-by : linesBy cells table ≡ linesOf cells
   lines-by = built 225 (omega arith) ∙ lines-filled cells
-
-module _ (l table : List ℕ) (t : table ≡ addresses) where
-  pub sound-by : isSoundBy l table ≡ isSound l
-  unfolding isSound
-  sound-by = ap (sameList l) (lines-by (cellsOf l) table t)
-
-  pub refusal-by : refusalBy l table ≡ linesRefusal l
-  unfolding linesRefusal
-  refusal-by = rw sound-by

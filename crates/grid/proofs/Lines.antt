@@ -295,7 +295,7 @@ column-shows : (r : Player) (cells : List ℕ) (x : ℕ) → x < 15 → shows r 
 unfolding keyDir keyNo
 column-shows r cells x h = shows-linesOf r cells x (omega arith) ∙ ap₂ (stoneAt r cells) (rw (lt-ltb x 15 h)) (rw (lt-ltb x 15 h))
 
-column-linesOf : (r : Player) (cells : List ℕ) (p : ℕ) → p < 225
+pub column-linesOf : (r : Player) (cells : List ℕ) (p : ℕ) → p < 225
     → shows r (linesOf cells) (xOf p) (yOf p) ≡ eqb (getD cells p 0) (colourNo r)
 unfolding lineNo cellNo
 column-linesOf r cells p hp =

@@ -145,12 +145,6 @@ builtBy cells table (suc n) =
 abbrev pub linesBy : List ℕ → List ℕ → List ℕ
 linesBy cells table = builtBy cells table 225
 
-abbrev pub isSoundBy : List ℕ → List ℕ → Bool
-isSoundBy l table = sameList l (linesBy (cellsOf l) table)
-
-abbrev pub refusalBy : List ℕ → List ℕ → ℕ
-refusalBy l table = unless (isSoundBy l table) unsound
-
 -- ---- a sequence of puts and removes, one after the other
 unfoldable pub playLines : List Change → List ℕ → List ℕ
 playLines [] l = l

@@ -11,7 +11,6 @@ pub use shown::is_sound_on;
 pub use shown::lines_by;
 pub use shown::lines_of;
 pub use shown::lines_refusal;
-pub use shown::lines_refusal_by;
 pub use starts::row_starts_by;
 pub use starts::row_starts_on;
 pub use starts::starts_at;

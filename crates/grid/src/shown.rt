@@ -7,7 +7,7 @@ use rules::Player;
 use rules::is_colour;
 use rules::unless;
 ghost use mathlib.Core.Path.{_≡_};
-ghost use Rattle.grid.specs.Lines.{cellOf, cellsOf, linesOf, linesBy, sameList, isSound, isSoundBy, linesRefusal, refusalBy};
+ghost use Rattle.grid.specs.Lines.{cellOf, cellsOf, linesOf, linesBy, sameList, isSound, linesRefusal};
 
 // What stands at a point, read off its column: 0 empty, 1 black, 2 white. A code over 224 is no point; its sum leads to a cell of one of
 // the first horizontal lines.
@@ -60,16 +60,8 @@ pub fn lines_by(cells: &[u8], table: &[u16; 900]) -> [u16; 144]
 pub fn is_sound_on(lines: &[u16; 144]) -> bool
     ensures { λ r. ⌜ r ≡ isSound (now (lines .entry)) ⌝ }
 {
-    let table = addresses();
-    is_sound_by(lines, &table)
-}
-
-// .. by a lent table.
-fn is_sound_by(lines: &[u16; 144], table: &[u16; 900]) -> bool
-    ensures { λ r. ⌜ r ≡ isSoundBy (now (lines .entry)) (now (table .entry)) ⌝ }
-{
     let cells = cells_on(lines);
-    let built = lines_by(&cells, table);
+    let built = lines_of(&cells);
     same_lines(*lines, built)
 }
 
@@ -78,13 +70,6 @@ pub fn lines_refusal(lines: &[u16; 144]) -> u8
     ensures { λ r. ⌜ r ≡ linesRefusal (now (lines .entry)) ⌝ }
 {
     unless(is_sound_on(lines), 9)
-}
-
-// .. by a lent table.
-pub fn lines_refusal_by(lines: &[u16; 144], table: &[u16; 900]) -> u8
-    ensures { λ r. ⌜ r ≡ refusalBy (now (lines .entry)) (now (table .entry)) ⌝ }
-{
-    unless(is_sound_by(lines, table), 9)
 }
 
 fn same_lines(a: [u16; 144], b: [u16; 144]) -> bool

@@ -2,6 +2,7 @@
 // in the high half (0: none), the answer in the low.
 mod answer;
 mod changes;
+mod counted;
 mod games;
 mod listed;
 mod masked;
@@ -15,6 +16,7 @@ pub use changes::renju_put;
 pub use changes::renju_remove;
 pub use changes::renju_turn;
 pub use changes::renju_turn_point;
+pub use counted::renju_counts;
 pub use games::renju_game;
 pub use listed::renju_empty_points;
 pub use listed::renju_forbidden_points;

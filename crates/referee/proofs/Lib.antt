@@ -8,12 +8,14 @@ pub mod EyeFound
 pub mod Asked
 -- where the sweep has no mark the verdict is none: whole columns may be passed over
 pub mod Swept
--- the refusals of a question on a board and on lent lines: what none says, and each by its tests
+-- the refusals of a question on a board: what none says, and each by its tests
 pub mod Ruled
 -- the eight views of what the referee answers on a board
 pub mod Seen
 -- the lines of a lent board, lent on and taken back
 pub mod Lines
+-- a count of a lent board, read and written
+pub mod Counts
 -- functions that are lent something and take a number: their contracts, and how one is called
 pub mod Lent
 -- a thin function over a lent board meets its contract where what it calls on the lines does

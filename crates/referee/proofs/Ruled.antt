@@ -1,7 +1,6 @@
--- The refusals of a question on a board and on lent lines: what none says, and each by its tests. Assumes nothing.
+-- The refusals of a question on a board: what none says, and each by its tests. Assumes nothing.
 use mathlib.Core.Path.{_≡_, refl, ap, sym, _∙_}
 use mathlib.Core.Bool.{Bool}
-use mathlib.Core.List.{List}
 use Prim.Native.Nat.{ℕ, _<_}
 use lib.Dec.{eqb}
 use lib.ListN.{getD}
@@ -13,9 +12,9 @@ use Rattle.rules.proofs.Refusals.{first-none, passed}
 use Rattle.grid.specs.Lines.{cellOf, Sound}
 use Rattle.grid.proofs.Lines.{empty-cell}
 use Rattle.board.specs.declared.board.Board.{Board}
-use Rattle.board.specs.Boards.{boardFrom, cells, boardRefusal, refusalAt}
+use Rattle.board.specs.Boards.{cells, refusalAt}
 use Rattle.board.proofs.Given.{at-in}
-use Rattle.referee.specs.Answers.{forbiddenRefusal, linesRefusalAt}
+use Rattle.referee.specs.Answers.{forbiddenRefusal}
 use Rattle.referee.proofs.Asked.{free-is}
 
 module _ (b : Board) (p : ℕ) where
@@ -37,8 +36,3 @@ module _ (b : Board) (p : ℕ) where
   refused-taken {v = v} e z ev er =
       let (s, hp) = at-in b p (sym e ∙ z) in
       er ∙ ap (λ (t : Bool). unless t 11) (sym (free-is (b .lines) p hp ev)) ∙ rw (eq-eqb (refusalAt b p) 0 (sym e ∙ z)) refl
-
--- the same of lent lines
-pub lines-at-in : (l : List ℕ) (p : ℕ) → linesRefusalAt l p ≡ 0 → Sound l × (p < 225)
-unfolding refusalAt boardRefusal
-lines-at-in l p e = at-in (boardFrom l) p e

@@ -17,8 +17,8 @@ use Rattle.rules.specs.declared.Verdict.{Verdict}
 use Rattle.rules.specs.declared.Verdict.the-variants.{None}
 use Rattle.point.specs.Places.{hasPlace}
 use Rattle.near.specs.declared.rows.Rows.{Rows}
-use Rattle.grid.specs.Lines.{cellsOf, Sound, writeOn}
-use Rattle.board.specs.Boards.{withLines}
+use Rattle.grid.specs.Lines.{cellsOf, Sound}
+use Rattle.board.specs.Boards.{cells, boardRefusal}
 use Rattle.board.specs.declared.board.Board.{Board}
 
 -- Section 5's order by the start masks of the rows through p; l is asked only where more than one Two goes through it
@@ -44,6 +44,8 @@ MasksOf r cells p m = (d : ℕ) → d < 4 → T (hasPlace d p) → getD m d 0 �
 unfoldable pub columnsOf : List ℕ → ℕ
 columnsOf m = maskOf 16 (λ x. anyBelow 26 (λ i. bit (getD m i 0) x))
 
--- the board with a cell's value written at a point of its lines
-abbrev pub writtenBoard : Board → ℕ → ℕ → Board
-writtenBoard b p v = withLines b (writeOn (b .lines) p v)
+-- a board that is not refused holds v at the point p
+pub record HoldsAt (b : Board) (p v : ℕ) : Type 0 where
+  pub sound : boardRefusal b ≡ 0
+  pub point : p < 225
+  pub value : getD (cells b) p 0 ≡ v

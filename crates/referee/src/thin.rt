@@ -1,4 +1,5 @@
-// The referee on a lent board: thin functions, each of which lends the board's lines on for one call, and the trial made of them.
+// The referee on a lent board: thin functions, each of which lends the board's lines on for one call, and the trial made of them. The stone
+// of a trial is counted while it is on.
 use super::on_lines::may_try;
 use super::on_lines::strict_on;
 use super::rows::put_black;
@@ -11,18 +12,20 @@ ghost use mathlib.Core.Path.{_≡_};
 ghost use Prim.Native.Nat.{_<_};
 ghost use lib.ListN.{getD};
 ghost use Rattle.rules.specs.Answers.{testAnswer, verdictAnswer};
-ghost use Rattle.rules.specs.Grid.{isEmpty};
+ghost use Rattle.rules.specs.Grid.{isEmpty, remove};
 ghost use Rattle.rules.specs.Forbidden.{withBlack, strictOf, realDouble, doubleThreeAt};
 ghost use Rattle.grid.specs.Lines.{Sound};
-ghost use Rattle.board.specs.Boards.{cells, refusalAt};
-ghost use Rattle.referee.specs.Referee.{writtenBoard};
+ghost use Rattle.board.specs.Boards.{cells, boardOf, refusalAt};
+ghost use Rattle.referee.specs.Referee.{HoldsAt};
 ghost use Rattle.referee.specs.Answers.{isYes};
 
-// Black's trial stone put on a lent board.
+// Black's trial stone put on a lent board, at an empty point: Black has one stone more.
 pub(crate) fn put_in(b: &mut Board, code: u8)
-    ensures { λ _. ⌜ now (b .exit) ≡ writtenBoard (now (b .entry)) code 1 ⌝ }
+    requires { ⌜ HoldsAt (now b) code 0 ⌝ }
+    ensures { λ _. ⌜ now (b .exit) ≡ boardOf (withBlack (cells (now (b .entry))) code) ⌝ }
 {
-    put_black(&mut b.lines, code)
+    put_black(&mut b.lines, code);
+    b.blacks = b.blacks + 1;
 }
 
 // Whether more than one real Three goes through the stone there.
@@ -33,16 +36,18 @@ pub(crate) fn ask_in(b: &mut Board, code: u8) -> bool
     real_on(&mut b.lines, code)
 }
 
-// The stone taken off again.
+// The stone taken off again: Black has one less.
 pub(crate) fn remove_in(b: &mut Board, code: u8)
-    ensures { λ _. ⌜ now (b .exit) ≡ writtenBoard (now (b .entry)) code 0 ⌝ }
+    requires { ⌜ HoldsAt (now b) code 1 ⌝ }
+    ensures { λ _. ⌜ now (b .exit) ≡ boardOf (remove (cells (now (b .entry))) code) ⌝ }
 {
-    remove_on(&mut b.lines, code)
+    remove_on(&mut b.lines, code);
+    b.blacks = b.blacks - 1;
 }
 
 // The three together, at an empty point: what is asked is the board with the stone, and the board is as it was.
 pub(crate) fn trial_in(b: &mut Board, code: u8) -> bool
-    requires { ⌜ Sound (now b .lines) × (code < 225) × (getD (cells (now b)) code 0 ≡ 0) ⌝ }
+    requires { ⌜ HoldsAt (now b) code 0 ⌝ }
     ensures { λ r. ⌜ (r ≡ realDouble strictOf (withBlack (cells (now (b .entry))) code) code) × (now (b .exit) ≡ now (b .entry)) ⌝ }
 {
     put_in(b, code);
@@ -56,7 +61,7 @@ pub(crate) fn may_try_in(b: &mut Board, code: u8) -> TestAnswer
     ensures { λ r. ⌜ (r ≡ testAnswer (refusalAt (now (b .entry)) code) (isEmpty (getD (cells (now (b .entry))) code 0)))
         × (now (b .exit) ≡ now (b .entry)) ⌝ }
 {
-    may_try(&mut b.lines, code)
+    may_try(&mut b.lines, b.blacks, b.whites, code)
 }
 
 // Whether a test was answered, and by yes.
@@ -87,5 +92,5 @@ pub fn forbidden_strict_in(b: &mut Board, code: u8) -> VerdictAnswer
     ensures { λ r. ⌜ (r ≡ verdictAnswer (refusalAt (now (b .entry)) code) (strictOf (cells (now (b .entry))) code))
         × (now (b .exit) ≡ now (b .entry)) ⌝ }
 {
-    strict_on(&mut b.lines, code)
+    strict_on(&mut b.lines, b.blacks, b.whites, code)
 }

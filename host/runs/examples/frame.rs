@@ -255,12 +255,12 @@ fn report(held: &Held) -> String {
     )
 }
 
-/// Draws the board with its crosses into the file.
+/// Draws the board with its crosses into the file. The caption says how many stones each side has.
 fn draw(cells: &Cells, file: &Path) -> io::Result<String> {
     let crosses = cells.forbidden_points();
-    let stones = 225 - cells.empty_points().len();
     let words = format!(
-        "{stones} stones, {} points forbidden to Black",
+        "{}; {} points forbidden to Black",
+        cells.counts(),
         crosses.len()
     );
     fs::write(file, picture::svg(cells, &crosses, &words))?;

@@ -138,6 +138,13 @@ static void records(void) {
     say("to_tagged", renju_to_tagged(moves, 3, RENJU_SAME, out, sizeof out), 1);
 }
 
+/* Three black stones and a white one; cells of another length. */
+static void counts(void) {
+    say("read", read_text("H8,I9,J10/A1"), 0);
+    say("counts", renju_counts(cells, sizeof cells), 0);
+    say("counts", renju_counts(cells, sizeof cells - 1), 0);
+}
+
 int main(void) {
     texts();
     points();
@@ -146,5 +153,6 @@ int main(void) {
     lines();
     games();
     records();
+    counts();
     return 0;
 }

@@ -62,6 +62,7 @@ fn whole_board(judge: &mut Judge, given: &Given) {
     for call in [Call::EmptyPoints, Call::ToString, Call::ToPrettyString] {
         ask(judge, call, given);
     }
+    judge.compare(Call::Counts, given, Room::Empty);
     for view in 0..8 {
         ask(judge, Call::Turn { view }, given);
     }

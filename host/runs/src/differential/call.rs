@@ -75,6 +75,8 @@ pub enum Call {
         colour: u8,
     },
     EmptyPoints,
+    /// Both colours' stones, counted.
+    Counts,
     Neighbors {
         code: u8,
         distance: u8,
@@ -112,7 +114,7 @@ pub enum Call {
 }
 
 /// The functions' names, by [`Call::number`].
-pub const NAMES: [&str; 26] = [
+pub const NAMES: [&str; 27] = [
     "renju_read",
     "renju_to_string",
     "renju_to_pretty_string",
@@ -139,6 +141,7 @@ pub const NAMES: [&str; 26] = [
     "renju_second_forbidden_strict",
     "renju_second_forbidden_points",
     "renju_game",
+    "renju_counts",
 ];
 
 /// What a function may write to.
@@ -171,6 +174,7 @@ impl Call {
             Call::LineEyes { .. } => 18,
             Call::Second(question) => 19 + question.number(),
             Call::Game => 25,
+            Call::Counts => 26,
         }
     }
 
@@ -182,7 +186,7 @@ impl Call {
         match self {
             Call::Put { .. } | Call::Remove { .. } => Lends::Cells,
             Call::Fast(question) | Call::Second(question) => question.lends(),
-            Call::TurnPoint { .. } => Lends::Nothing,
+            Call::TurnPoint { .. } | Call::Counts => Lends::Nothing,
             _ if self.line().is_some() => Lends::Nothing,
             _ => Lends::Out,
         }
@@ -303,6 +307,7 @@ pub fn ask(call: &Call, given: &[u8], lent: &mut Lent) -> u32 {
         Call::Remove { code } => raw::renju_remove(lent, code),
         Call::Stones { colour } => raw::renju_stones(given, colour, lent),
         Call::EmptyPoints => raw::renju_empty_points(given, lent),
+        Call::Counts => raw::renju_counts(given),
         Call::Neighbors {
             code,
             distance,

@@ -64,7 +64,8 @@ fn numbers(call: &Call) -> Numbers {
         Call::LineStartsOn {
             colour, kind, cell, ..
         } => (n.colour, n.kind, n.cell) = (Some(colour), Some(kind), Some(cell)),
-        Call::Read | Call::ToString | Call::ToPrettyString | Call::EmptyPoints | Call::Game => {}
+        Call::Read | Call::ToString | Call::ToPrettyString => {}
+        Call::EmptyPoints | Call::Counts | Call::Game => {}
     }
     n
 }
@@ -170,6 +171,10 @@ fn of_board(call: &Call, cells: &Cells, board: &Board) -> (u16, Vec<u8>) {
         Call::Remove { code } => (0, to_cells(&board.without_stone(point(code))).to_vec()),
         Call::Stones { colour } => list(original::stones(board, colour), 1),
         Call::EmptyPoints => list(original::empty_points(board), 1),
+        Call::Counts => {
+            let [black, white] = [1, 2].map(|colour| original::stones(board, colour).len() as u16);
+            (256 * white + black, Vec::new())
+        }
         Call::Neighbors {
             code,
             distance,

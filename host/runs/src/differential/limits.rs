@@ -55,7 +55,7 @@ fn every() -> [Numbers; 5] {
 /// Every function about a board, with every one of the numbers. The second referee's are asked
 /// with the fast one's.
 fn calls(numbers: &Numbers) -> Vec<Call> {
-    let mut all = vec![Call::ToString, Call::ToPrettyString];
+    let mut all = vec![Call::ToString, Call::ToPrettyString, Call::Counts];
     all.extend([Call::EmptyPoints, Call::Fast(Question::ForbiddenPoints)]);
     all.extend(numbers.views.iter().map(|&view| Call::Turn { view }));
     for &colour in &numbers.colours {

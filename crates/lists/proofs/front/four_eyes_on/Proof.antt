@@ -5,7 +5,7 @@ use borrow.Author.Needs.{needs}
 use Rattle.rules.specs.Grid.{fourEyes}
 use Rattle.rules.specs.declared.Player.{Player}
 use Rattle.board.specs.Boards.{cells}
-use Rattle.board.proofs.Given.{for-in}
+use Rattle.board.proofs.Given.{sound-in, for-none}
 use Rattle.lent.proofs.Laws.{held-as, held-le, turned-down}
 use Rattle.cells.proofs.Kept.{handed-codes}
 use Rattle.lists.proofs.front.four_eyes_on.Statement.{statement}
@@ -24,7 +24,8 @@ four-eyes-requires : tie.Need-four-eyes-requires
 four-eyes-requires c κs =
     let s = c .before .before .before in
     let a = s .before .before .before .args in
-    for-in (a .board) (a .code) (a .colour) (sym (s .before .refusal-for .ensures) ∙ s .if1 .left)
+    let (none, point) = for-none (a .board) (a .code) (a .colour) (sym (s .before .refusal-for .ensures) ∙ s .if1 .left) in
+    (sound-in (a .board) none, point)
 
 slice-aggregate-hand-out : tie.Need-slice-aggregate-hand-out
 slice-aggregate-hand-out c = search needs

@@ -2,19 +2,17 @@
 use mathlib.Core.Path.{refl, sym, _∙_}
 use Rattle.referee.proofs.Asked.{free-is}
 use Rattle.rules.proofs.Refusals.{tested, not-tested}
-use Rattle.referee.proofs.Ruled.{lines-at-in}
+use Rattle.board.specs.Boards.{boardWith}
+use Rattle.board.proofs.Given.{at-in}
 use borrow.Author.Needs.{needs}
 use Rattle.referee.proofs.on_lines.may_try.Statement.{statement}
 use Rattle.referee.proofs.on_lines.may_try.Tie as tie
 
-addresses-requires : tie.Need-addresses-requires
-addresses-requires c κs = search needs
-
-refusal-by-requires : tie.Need-refusal-by-requires
-refusal-by-requires c κs = c .before .before .addresses .ensures
+refusal-at-requires : tie.Need-refusal-at-requires
+refusal-at-requires c κs = search needs
 
 returns : tie.Need-returns
-returns c = (not-tested _ (c .before .refusal-by .ensures) (c .if1 .taken), refl)
+returns c = (not-tested _ (c .before .refusal-at .ensures) (c .if1 .taken), refl)
 
 cell-on-requires : tie.Need-cell-on-requires
 cell-on-requires c κs = search needs
@@ -22,11 +20,11 @@ cell-on-requires c κs = search needs
 returns-2 : tie.Need-returns-2
 returns-2 c =
     let o = c .before .before in
-    let a = o .before .before .before .before .before .args in
-    let (_, hp) = lines-at-in (a .lines .now) (a .code) (sym (o .before .refusal-by .ensures) ∙ o .if1 .left) in (
-      tested _ (o .before .refusal-by .ensures) (o .if1 .left) (sym (free-is (a .lines .now) (a .code) hp (c .cell-on .ensures))),
+    let a = o .before .before .before .args in
+    let (_, hp) = at-in (boardWith (a .lines .now) (a .blacks) (a .whites)) (a .code) (sym (o .before .refusal-at .ensures) ∙ o .if1 .left) in (
+      tested _ (o .before .refusal-at .ensures) (o .if1 .left) (sym (free-is (a .lines .now) (a .code) hp (c .cell-on .ensures))),
       refl,
     )
 
 pub may-try-spec : {M : Type 1} → statement M
-may-try-spec = tie.close (tie.spec addresses-requires refusal-by-requires returns cell-on-requires returns-2)
+may-try-spec = tie.close (tie.spec refusal-at-requires returns cell-on-requires returns-2)

@@ -1,18 +1,16 @@
 -- `referee::thin::forbidden_strict_in` meets its contract, as `strict_on` does: an instance of the shared walk. The answer is an enum,
 -- whose laws come from the module that the check makes of it. Assumes nothing.
 use mathlib.Core.Path.{_≡_, ap}
-use base.Logic.{emp}
 use contract.Running.{givenOf, tables, tablesOf}
 use denote.Enum.Laws as EL
 use denote.Triple.Spec.{tripleOf}
 use denote.Triple.Table.{entered, cited}
 use Rattle.rules.specs.Forbidden.{strictOf}
 use Rattle.grid.specs.Lines.{cellsOf}
-use Rattle.board.specs.Boards.{withLines, cells, boardRefusal, refusalAt}
-use Rattle.referee.specs.Answers.{linesRefusalAt}
+use Rattle.board.specs.Boards.{boardWith, withLines, cells, refusalAt}
 use Rattle.rules.proofs.answer.VerdictAnswer as S
 use Rattle.rules.proofs.answer.VerdictAnswer.Laws as S′
-use Rattle.referee.proofs.Walk.{thin}
+use Rattle.referee.proofs.Walk.{counted-thin}
 use Rattle.rules.specs.Answers.{verdictAnswer}
 use Rattle.referee.proofs.on_lines.strict_on as strict-on
 use Rattle.referee.proofs.on_lines.strict_on.Symbol as strict-on-def
@@ -24,12 +22,12 @@ use Rattle.referee.proofs.thin.forbidden_strict_in.Statement as stated
 use Rattle.referee.proofs.thin.forbidden_strict_in.Code as code
 
 pub forbidden-strict-in-spec : {M : Type 1} → stated.statement M
-unfolding code.routine tablesOf refusalAt boardRefusal
+unfolding code.routine tablesOf
 forbidden-strict-in-spec 𝓤 H 𝓜 𝓖 𝓡 =
     entered 𝓤 H (tripleOf 𝓤 H (𝓖 .A) strict-in.signature (strict-in.spec 𝓤 H (𝓖 .A) (𝓜 .mem) (𝓡 .run)))
     (tables 𝓤 H 𝓜 𝓡 code.env .C) (tables 𝓤 H 𝓜 𝓡 code.env .Λ) #strict-in code.function (code.unfolded 𝓤 H 𝓜 𝓡)
-    (thin 𝓤 H (𝓖 .A) (givenOf 𝓤 H 𝓜 𝓖) S.the-row (λ n xs. emp 𝓤)
-    (λ n xs zs r. (r ≡ verdictAnswer (linesRefusalAt xs n) (strictOf (cellsOf xs) n)) × (zs ≡ xs))
+    (counted-thin 𝓤 H (𝓖 .A) (givenOf 𝓤 H 𝓜 𝓖) S.the-row
+    (λ k m n xs zs r. (r ≡ verdictAnswer (refusalAt (boardWith xs k m) n) (strictOf (cellsOf xs) n)) × (zs ≡ xs))
     (λ n h h′ r. (r ≡ verdictAnswer (refusalAt h n) (strictOf (cells h) n)) × (h′ ≡ h))
     (λ n h zs r e. (e .0, ap (withLines h) (e .1)))
     (tablesOf 𝓤 H 𝓜 (tables 𝓤 H 𝓜 𝓡 code.env)) #strict-on

@@ -1,7 +1,6 @@
 -- `referee::thin::may_try_in` meets its contract, as `may_try` does: an instance of the shared walk. Assumes nothing.
 use mathlib.Core.Path.{_≡_, ap}
 use lib.ListN.{getD}
-use base.Logic.{emp}
 use contract.Running.{givenOf, tables, tablesOf}
 use denote.Enum.Laws as EL
 use denote.Triple.Spec.{tripleOf}
@@ -11,9 +10,8 @@ use Rattle.rules.specs.Answers.{testAnswer}
 use Rattle.rules.proofs.answer.TestAnswer as S
 use Rattle.rules.proofs.answer.TestAnswer.Laws as S′
 use Rattle.grid.specs.Lines.{cellsOf}
-use Rattle.board.specs.Boards.{withLines, cells, boardRefusal, refusalAt}
-use Rattle.referee.specs.Answers.{linesRefusalAt}
-use Rattle.referee.proofs.Walk.{thin}
+use Rattle.board.specs.Boards.{boardWith, withLines, cells, refusalAt}
+use Rattle.referee.proofs.Walk.{counted-thin}
 use Rattle.referee.proofs.on_lines.may_try as may-try
 use Rattle.referee.proofs.on_lines.may_try.Symbol as may-try-def
 use Rattle.referee.proofs.on_lines.may_try.Symbol.{name as #may-try}
@@ -24,12 +22,12 @@ use Rattle.referee.proofs.thin.may_try_in.Statement as stated
 use Rattle.referee.proofs.thin.may_try_in.Code as code
 
 pub may-try-in-spec : {M : Type 1} → stated.statement M
-unfolding code.routine tablesOf refusalAt boardRefusal
+unfolding code.routine tablesOf
 may-try-in-spec 𝓤 H 𝓜 𝓖 𝓡 =
     entered 𝓤 H (tripleOf 𝓤 H (𝓖 .A) may-try-in.signature (may-try-in.spec 𝓤 H (𝓖 .A) (𝓜 .mem) (𝓡 .run)))
     (tables 𝓤 H 𝓜 𝓡 code.env .C) (tables 𝓤 H 𝓜 𝓡 code.env .Λ) #may-try-in code.function (code.unfolded 𝓤 H 𝓜 𝓡)
-    (thin 𝓤 H (𝓖 .A) (givenOf 𝓤 H 𝓜 𝓖) S.the-row (λ n xs. emp 𝓤)
-    (λ n xs zs r. (r ≡ testAnswer (linesRefusalAt xs n) (isEmpty (getD (cellsOf xs) n 0))) × (zs ≡ xs))
+    (counted-thin 𝓤 H (𝓖 .A) (givenOf 𝓤 H 𝓜 𝓖) S.the-row
+    (λ k m n xs zs r. (r ≡ testAnswer (refusalAt (boardWith xs k m) n) (isEmpty (getD (cellsOf xs) n 0))) × (zs ≡ xs))
     (λ n h h′ r. (r ≡ testAnswer (refusalAt h n) (isEmpty (getD (cells h) n 0))) × (h′ ≡ h))
     (λ n h zs r e. (e .0, ap (withLines h) (e .1)))
     (tablesOf 𝓤 H 𝓜 (tables 𝓤 H 𝓜 𝓡 code.env)) #may-try

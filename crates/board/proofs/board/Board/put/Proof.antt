@@ -1,6 +1,7 @@
--- `board::board::Board::put` meets its contract: on sound lines a put sets the cell. Assumes nothing.
-use Rattle.grid.proofs.Lines.{write-sound-lines}
-use Rattle.board.proofs.Given.{board-given, with-lines, for-in}
+-- `board::board::Board::put` meets its contract: on sound lines a put sets the cell, and the counts move by what stood there.
+-- Assumes nothing.
+use mathlib.Core.Path.{refl}
+use Rattle.board.proofs.Given.{board-given, changed-board, for-none}
 use borrow.Author.Needs.{needs}
 use Rattle.board.proofs.board.Board.put.Statement.{statement}
 use Rattle.board.proofs.board.Board.put.Tie as tie
@@ -11,8 +12,14 @@ refusal-for-requires c κs = search needs
 or-white-requires : tie.Need-or-white-requires
 or-white-requires c κs = search needs
 
+cell-on-requires : tie.Need-cell-on-requires
+cell-on-requires c κs = search needs
+
 put-on-requires : tie.Need-put-on-requires
 put-on-requires c κs = search needs
+
+number-requires : tie.Need-number-requires
+number-requires c κs = search needs
 
 with-lines-requires : tie.Need-with-lines-requires
 with-lines-requires c κs = search needs
@@ -22,16 +29,21 @@ of-requires c κs = search needs
 
 returns : tie.Need-returns
 returns c =
-    let a = c .before .before .before .before .before .before .before .args in
+    let n = c .before .before in
+    let r = n .before .before .before .before .before in
+    let a = r .before .before .before .args in
     simp (
       c .of .ensures,
       c .before .with-lines .ensures,
-      c .before .before .put-on .ensures,
-      c .before .before .before .or-white .ensures,
-      c .before .before .before .before .before .refusal-for .ensures,
+      n .number .ensures,
+      n .before .put-on .ensures,
+      n .before .before .before .cell-on .ensures,
+      r .or-white .ensures,
+      r .before .refusal-for .ensures,
     )
     (board-given _ _ _ (λ e.
-    with-lines (a .self) _ (write-sound-lines (a .self .lines) (a .code) _ (for-in (a .self) (a .code) (a .colour) e .0))))
+    let (none, hp) = for-none (a .self) (a .code) (a .colour) e in
+    changed-board (a .self) (a .code) _ none hp refl refl refl))
 
 pub put-spec : {M : Type 1} → statement M
 put-spec =
@@ -39,7 +51,9 @@ put-spec =
     (tie.spec
     refusal-for-requires
     or-white-requires
+    cell-on-requires
     put-on-requires
+    number-requires
     with-lines-requires
     of-requires
     returns)

@@ -1,15 +1,13 @@
 -- `board::board::Board::refusal` meets its contract: what it calls says it. Assumes nothing.
-use Rattle.board.specs.Boards.{boardRefusal}
 use borrow.Author.Needs.{needs}
 use Rattle.board.proofs.board.Board.refusal.Statement.{statement}
 use Rattle.board.proofs.board.Board.refusal.Tie as tie
 
-lines-refusal-requires : tie.Need-lines-refusal-requires
-lines-refusal-requires c κs = search needs
+refusal-on-requires : tie.Need-refusal-on-requires
+refusal-on-requires c κs = search needs
 
 returns : tie.Need-returns
-unfolding boardRefusal
-returns c = c .lines-refusal .ensures
+returns c = c .refusal-on .ensures
 
 pub refusal-spec : {M : Type 1} → statement M
-refusal-spec = tie.close (tie.spec lines-refusal-requires returns)
+refusal-spec = tie.close (tie.spec refusal-on-requires returns)
