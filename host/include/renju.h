@@ -67,7 +67,10 @@ enum renju_refusals {
     RENJU_OUTPUT = 13,     /* a lent output shorter than the whole answer */
     RENJU_MANY_MOVES = 14, /* a game of more than 225 moves */
     RENJU_MALFORMED = 15,  /* a malformed record */
-    RENJU_TURNED_VIEW = 16 /* a record in another view than 0, taken back */
+    RENJU_TURNED_VIEW = 16, /* a record in another view than 0, taken back */
+    RENJU_FOREIGN_GAME = 17, /* a move of another game */
+    RENJU_NOT_NEXT = 18,     /* a move whose number is not next */
+    RENJU_APART_LISTS = 19   /* two lists of which neither begins the other */
 };
 
 /* What is on a cell; the last two are the colours. */
@@ -252,6 +255,19 @@ uint32_t renju_tagged_view(const uint8_t *record, size_t record_len);
 
 /* How many stones each side has: 256 times White's plus Black's. Refusal 9. */
 uint32_t renju_counts(const uint8_t *cells, size_t cells_len);
+
+/* The move feed. A client holds count moves of a game, a code each, in the leading bytes of held; the
+ * message that arrives is move `number`, from 1, of game of_game. */
+
+/* The client takes the next move of its own game: the new count; held[count] is the code. Refusals 17,
+ * 18, 8, 14 for a 226th move, 13 for a held of no more than count bytes. */
+uint32_t renju_feed_take(uint32_t game, uint8_t *held, size_t held_len, uint16_t count,
+                         uint32_t of_game, uint16_t number, uint8_t code);
+
+/* Two held lists: 0 if they are equal, 1 if the first is longer, 2 if the second is. The part that
+ * the shorter lacks is the longer one from the shorter one's length on. Refusal 19. */
+uint32_t renju_feed_missing(const uint8_t *first, size_t first_len, const uint8_t *second,
+                            size_t second_len);
 
 #ifdef __cplusplus
 }

@@ -59,6 +59,11 @@
 //! A [`Record`] is a [`Game`] with the view that it is shown in, in the tagged form; games of the
 //! old form, a point's code for each move, become records and come back.
 //!
+//! # A thin client
+//!
+//! [`feed`] tells a client the moves of a game over a line that loses, repeats and reorders
+//! messages, and says when both boards are equal.
+//!
 //! # Refusals
 //!
 //! What can be refused is a `Result` with a [`Refusal`], which has the number that the Rattle and
@@ -75,6 +80,7 @@
 
 mod cells;
 mod colour;
+pub mod feed;
 mod game;
 mod kind;
 mod line;

@@ -3,7 +3,7 @@
 //!
 //! They are for callers that keep their own buffers. Any bytes and numbers may be handed to them. A
 //! refusal leaves every lent byte as it was; an answer writes its own leading bytes of the lent
-//! buffer ([`renju_put`] and [`renju_remove`]: one cell) and no other. Cells are 225 bytes in code
+//! buffer ([`renju_put`], [`renju_remove`], [`renju_feed_take`]: one byte) and no other. Cells are 225 bytes in code
 //! order, 0 empty, 1 black, 2 white. What each can refuse is said with it; where several apply, the
 //! first named is given.
 //!
@@ -231,6 +231,21 @@ mod ffi {
         ) -> u32;
         pub fn renju_tagged_view(record: *const u8, record_len: usize) -> u32;
         pub fn renju_counts(cells: *const u8, cells_len: usize) -> u32;
+        pub fn renju_feed_take(
+            game: u32,
+            held: *mut u8,
+            held_len: usize,
+            count: u16,
+            of_game: u32,
+            number: u16,
+            code: u8,
+        ) -> u32;
+        pub fn renju_feed_missing(
+            first: *const u8,
+            first_len: usize,
+            second: *const u8,
+            second_len: usize,
+        ) -> u32;
     }
 }
 
@@ -716,4 +731,44 @@ pub fn renju_tagged_view(record: &[u8]) -> u32 {
 /// ```
 pub fn renju_counts(cells: &[u8]) -> u32 {
     unsafe { ffi::renju_counts(cells.as_ptr(), cells.len()) }
+}
+
+/// A message of the move feed at a client that holds `count` moves of game
+/// `game` in the leading bytes of `held`: the new count, and the code written
+/// behind them. The message is move `number` of game `of_game`. Refusals 17,
+/// 18, 8, 14 for a 226th move, and 13 where `held` has no more than `count`
+/// bytes.
+///
+/// ```
+/// # use renju::raw::*;
+/// let mut held = [0; 225];
+/// assert_eq!(renju_feed_take(7, &mut held, 0, 7, 1, 112), 1);
+/// assert_eq!(renju_feed_take(7, &mut held, 1, 7, 1, 112), 18 << 16);
+/// assert_eq!(renju_feed_take(7, &mut held, 1, 8, 1, 112), 17 << 16);
+/// assert_eq!(held[..2], [112, 0]);
+/// ```
+pub fn renju_feed_take(
+    game: u32,
+    held: &mut [u8],
+    count: u16,
+    of_game: u32,
+    number: u16,
+    code: u8,
+) -> u32 {
+    let (pointer, length) = (held.as_mut_ptr(), held.len());
+    unsafe { ffi::renju_feed_take(game, pointer, length, count, of_game, number, code) }
+}
+
+/// Two held lists, one of which begins the other: 0 if they are equal, 1 if the
+/// first is longer, 2 if the second is. What the shorter lacks is the longer
+/// one from the shorter one's length on. Refusal 19 where neither begins the
+/// other.
+///
+/// ```
+/// # use renju::raw::*;
+/// assert_eq!(renju_feed_missing(&[112, 96], &[112]), 1);
+/// assert_eq!(renju_feed_missing(&[112, 96], &[113]), 19 << 16);
+/// ```
+pub fn renju_feed_missing(first: &[u8], second: &[u8]) -> u32 {
+    unsafe { ffi::renju_feed_missing(first.as_ptr(), first.len(), second.as_ptr(), second.len()) }
 }

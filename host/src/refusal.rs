@@ -60,6 +60,13 @@ pub enum Refusal {
     Malformed = 15,
     /// 16: a record in another view than 0, taken back to the old form.
     TurnedView = 16,
+    /// 17: a move of a foreign game; a takeback where no game number is left.
+    ForeignGame = 17,
+    /// 18: a move whose number is not next; the message of a move that there
+    /// is not.
+    NotNext = 18,
+    /// 19: two lists of which neither begins the other.
+    ApartLists = 19,
 }
 
 impl Refusal {
@@ -68,10 +75,10 @@ impl Refusal {
     /// ```
     /// use renju::Refusal;
     ///
-    /// assert_eq!(Refusal::ALL.len(), 16);
+    /// assert_eq!(Refusal::ALL.len(), 19);
     /// assert_eq!(Refusal::ALL[0].number(), 1);
     /// ```
-    pub const ALL: [Self; 16] = [
+    pub const ALL: [Self; 19] = [
         Self::TextLength,
         Self::TextByte,
         Self::XPart,
@@ -88,9 +95,12 @@ impl Refusal {
         Self::ManyMoves,
         Self::Malformed,
         Self::TurnedView,
+        Self::ForeignGame,
+        Self::NotNext,
+        Self::ApartLists,
     ];
 
-    /// The documents' number, 1 to 16.
+    /// The documents' number, 1 to 19.
     ///
     /// ```
     /// assert_eq!(renju::Refusal::Occupied.number(), 11);
@@ -99,7 +109,7 @@ impl Refusal {
         self as u8
     }
 
-    /// The refusal of a number; none for 0 and for a number over 16.
+    /// The refusal of a number; none for 0 and for a number over 19.
     ///
     /// ```
     /// use renju::Refusal;
@@ -125,6 +135,9 @@ impl Refusal {
             14 => Self::ManyMoves,
             15 => Self::Malformed,
             16 => Self::TurnedView,
+            17 => Self::ForeignGame,
+            18 => Self::NotNext,
+            19 => Self::ApartLists,
             _ => return None,
         })
     }
@@ -156,6 +169,9 @@ impl Refusal {
             Self::ManyMoves => "the game has more than 225 moves",
             Self::Malformed => "the record is malformed",
             Self::TurnedView => "the record is in another view than 0",
+            Self::ForeignGame => "the move is of another game, or no game number is left",
+            Self::NotNext => "the move's number is not next, or there is no such move",
+            Self::ApartLists => "neither list begins the other",
         }
     }
 }
@@ -189,7 +205,7 @@ pub const fn answer(word: u32) -> Result<u16, Refusal> {
     if refused == 0 {
         return Ok(answer);
     }
-    // No function gives a number over 16, so each has its own refusal here.
+    // No function gives a number over 19, so each has its own refusal here.
     match Refusal::from_number(refused as u8) {
         Some(refusal) => Err(refusal),
         None => Err(Refusal::Output),

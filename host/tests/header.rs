@@ -114,6 +114,7 @@ fn parameter_in_c(parameter: &str) -> String {
         "bool" => "bool ",
         "u8" => "uint8_t ",
         "u16" => "uint16_t ",
+        "u32" => "uint32_t ",
         _ => panic!("{of} has no word in C"),
     };
     format!("{of}{name}")

@@ -1,5 +1,6 @@
 //! No question about a board touches the heap.
 
+use renju::feed::{Client, Server, missing};
 use renju::{Cells, Colour, Game, Kind, Point, Record, View, second};
 use std::alloc::{GlobalAlloc, Layout, System};
 use std::cell::Cell;
@@ -57,6 +58,15 @@ fn store(game: Game) {
     black_box(record.to_codes()).unwrap_err();
 }
 
+fn feed(point: Point) {
+    let (mut server, mut client) = (Server::new(1), Client::new(1));
+    server.add(point.code()).unwrap();
+    black_box(missing(client.as_codes(), server.as_codes())).unwrap();
+    server.hear(client.take(server.message(1).unwrap()).answer);
+    assert_eq!(server.cells(), client.cells());
+    server.take_back().unwrap();
+}
+
 fn ask_everything(bytes: &[u8], text: &[u8], point: Point) {
     let mut cells = Cells::read(text).unwrap();
     cells.put(point, Colour::Black);
@@ -82,6 +92,7 @@ fn ask_everything(bytes: &[u8], text: &[u8], point: Point) {
     write!(Nowhere, "{}", game.report()).unwrap();
     ask_the_second(&cells, point);
     store(game);
+    feed(point);
     write!(Nowhere, "{cells}").unwrap();
 }
 

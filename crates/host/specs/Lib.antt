@@ -1,3 +1,4 @@
 -- What the contracts of `host` cite beside the rules.
 pub mod Answers
+pub mod Feeds
 pub mod Games

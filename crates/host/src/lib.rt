@@ -3,6 +3,7 @@
 mod answer;
 mod changes;
 mod counted;
+mod feeds;
 mod games;
 mod listed;
 mod masked;
@@ -17,6 +18,8 @@ pub use changes::renju_remove;
 pub use changes::renju_turn;
 pub use changes::renju_turn_point;
 pub use counted::renju_counts;
+pub use feeds::renju_feed_missing;
+pub use feeds::renju_feed_take;
 pub use games::renju_game;
 pub use listed::renju_empty_points;
 pub use listed::renju_forbidden_points;

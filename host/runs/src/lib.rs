@@ -1,6 +1,8 @@
-//! The host interface beside the original, and stored games beside a plain reading of document 02.
+//! The host interface beside the original; stored games and the move feed beside plain readings of
+//! document 02.
 
 pub mod differential;
+pub mod feed;
 pub mod reading;
 pub mod stored;
 pub mod timing;

@@ -145,6 +145,25 @@ static void counts(void) {
     say("counts", renju_counts(cells, sizeof cells - 1), 0);
 }
 
+/* The second move comes before the first, the first twice; then a foreign game, no point, no room.
+ * Of two lists the longer, and two that part. */
+static void feeds(void) {
+    static uint8_t held[2] = {0};
+    static const uint8_t all[] = {112, 128}, other[] = {113};
+    say("feed_take", renju_feed_take(7, held, sizeof held, 0, 7, 2, 128), 0);
+    say("feed_take", renju_feed_take(7, held, sizeof held, 0, 7, 1, 112), 0);
+    say("feed_take", renju_feed_take(7, held, sizeof held, 1, 7, 1, 112), 0);
+    say("feed_take", renju_feed_take(7, held, sizeof held, 1, 8, 1, 112), 0);
+    say("feed_take", renju_feed_take(7, held, sizeof held, 1, 7, 2, 225), 0);
+    say("feed_take", renju_feed_take(7, held, 1, 1, 7, 2, 128), 0);
+    say("feed_take", renju_feed_take(7, held, sizeof held, 225, 7, 226, 128), 0);
+    printf("%u %u\n", (unsigned)held[0], (unsigned)held[1]);
+    say("feed_missing", renju_feed_missing(held, 1, all, 2), 0);
+    say("feed_missing", renju_feed_missing(all, 2, held, 1), 0);
+    say("feed_missing", renju_feed_missing(all, 2, all, 2), 0);
+    say("feed_missing", renju_feed_missing(all, 2, other, 1), 0);
+}
+
 int main(void) {
     texts();
     points();
@@ -154,5 +173,6 @@ int main(void) {
     games();
     records();
     counts();
+    feeds();
     return 0;
 }
