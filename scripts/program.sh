@@ -43,3 +43,19 @@ run() { # WORDS...
     fi
     "$@"
 }
+
+# The program run as a converter: the bytes go past the shell, from standard input to standard output, and the last line on standard error
+# tells how it went. The exit status is 1 where it says `refused N`, and 2 where it says anything else.
+converted() { # WORD, or an empty one for none
+    status=0
+    { said=$(run ${1:+"$1"} 2>&1 >&3) || status=$?; } 3>&1
+    if [ -n "$said" ]; then
+        printf '%s\n' "$said" >&2
+    fi
+    last=$(printf '%s\n' "$said" | tail -n 1)
+    case $status$last in
+    0) exit 0 ;;
+    '0refused '*) exit 1 ;;
+    *) exit 2 ;;
+    esac
+}

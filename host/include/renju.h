@@ -49,6 +49,7 @@ extern "C" {
 #define RENJU_MOVES 225   /* a game has at most so many moves */
 #define RENJU_REPORT 228  /* the report of a game: number, reason, winner, cells */
 #define RENJU_RECORD 232  /* a stored game in tagged form has at most so many bytes */
+#define RENJU_SGF 1364    /* a game's SGF text has at most so many bytes */
 
 /* Why a question was refused. */
 enum renju_refusals {
@@ -70,7 +71,8 @@ enum renju_refusals {
     RENJU_TURNED_VIEW = 16, /* a record in another view than 0, taken back */
     RENJU_FOREIGN_GAME = 17, /* a move of another game */
     RENJU_NOT_NEXT = 18,     /* a move whose number is not next */
-    RENJU_APART_LISTS = 19   /* two lists of which neither begins the other */
+    RENJU_APART_LISTS = 19,  /* two lists of which neither begins the other */
+    RENJU_OUTSIDE_SUBSET = 20 /* an SGF text outside the subset that is read */
 };
 
 /* What is on a cell; the last two are the colours. */
@@ -268,6 +270,17 @@ uint32_t renju_feed_take(uint32_t game, uint8_t *held, size_t held_len, uint16_t
  * the shorter lacks is the longer one from the shorter one's length on. Refusal 19. */
 uint32_t renju_feed_missing(const uint8_t *first, size_t first_len, const uint8_t *second,
                             size_t second_len);
+
+/* Games as SGF text: `(;GM[4]SZ[15]`, then `;B[hh]` or `;W[hh]` in turn for each move, then `)`. The
+ * letters, a to o, are the column and the row counted from the top: A1 is `ao`, O15 is `oa`. */
+
+/* The text of moves: how many bytes, 14 and six for each move. Refusals 14, 8, 13. */
+uint32_t renju_to_sgf(const uint8_t *moves, size_t moves_len, uint8_t *out, size_t out_len);
+
+/* The moves of a text: how many; a code each. White space, bytes 9 to 13 and 32, may stand around
+ * tokens: `(` `)` `;`, a name such as `GM`, a value with its brackets. Refusals 1, 2, 20 for anything
+ * else, 14, 13. */
+uint32_t renju_from_sgf(const uint8_t *text, size_t text_len, uint8_t *out, size_t out_len);
 
 #ifdef __cplusplus
 }

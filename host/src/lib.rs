@@ -64,6 +64,10 @@
 //! [`feed`] tells a client the moves of a game over a line that loses, repeats and reorders
 //! messages, and says when both boards are equal.
 //!
+//! # Games from and for other programs
+//!
+//! [`sgf`] writes a [`Game`] as SGF text and reads it back.
+//!
 //! # Refusals
 //!
 //! What can be refused is a `Result` with a [`Refusal`], which has the number that the Rattle and
@@ -94,6 +98,7 @@ mod referee;
 mod refusal;
 mod row;
 pub mod second;
+pub mod sgf;
 mod verdict;
 mod view;
 
@@ -194,6 +199,17 @@ pub const REPORT: usize = 228;
 /// # Ok::<(), renju::Refusal>(())
 /// ```
 pub const RECORD: usize = 232;
+
+/// How many bytes a game's SGF text can have: 14, and six for each of 225 moves.
+///
+/// ```
+/// use renju::{Game, sgf};
+///
+/// let game = Game::from_codes(&[0; renju::MOVES])?;
+/// assert_eq!(sgf::write(&game).len(), renju::SGF);
+/// # Ok::<(), renju::Refusal>(())
+/// ```
+pub const SGF: usize = 1364;
 
 /// How many bytes a text may have.
 ///

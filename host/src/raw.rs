@@ -246,6 +246,18 @@ mod ffi {
             second: *const u8,
             second_len: usize,
         ) -> u32;
+        pub fn renju_to_sgf(
+            moves: *const u8,
+            moves_len: usize,
+            out: *mut u8,
+            out_len: usize,
+        ) -> u32;
+        pub fn renju_from_sgf(
+            text: *const u8,
+            text_len: usize,
+            out: *mut u8,
+            out_len: usize,
+        ) -> u32;
     }
 }
 
@@ -771,4 +783,32 @@ pub fn renju_feed_take(
 /// ```
 pub fn renju_feed_missing(first: &[u8], second: &[u8]) -> u32 {
     unsafe { ffi::renju_feed_missing(first.as_ptr(), first.len(), second.as_ptr(), second.len()) }
+}
+
+/// A game as SGF text: how many bytes, 14 and six for each move, the text
+/// written. Refusals 14, 8, 13.
+///
+/// ```
+/// # use renju::raw::*;
+/// let mut out = [0; 1364];
+/// assert_eq!(renju_to_sgf(&[112], &mut out), 20);
+/// assert_eq!(&out[..20], b"(;GM[4]SZ[15];B[hh])");
+/// assert_eq!(renju_to_sgf(&[225], &mut out), 8 << 16);
+/// ```
+pub fn renju_to_sgf(moves: &[u8], out: &mut [u8]) -> u32 {
+    unsafe { ffi::renju_to_sgf(moves.as_ptr(), moves.len(), out.as_mut_ptr(), out.len()) }
+}
+
+/// The moves of an SGF text: how many, their codes written. Refusals 1, 2, 20,
+/// 14, 13.
+///
+/// ```
+/// # use renju::raw::*;
+/// let mut out = [0; 225];
+/// assert_eq!(renju_from_sgf(b"(;GM[4] SZ[15] ;B[hh] ;W[ig])", &mut out), 2);
+/// assert_eq!(out[..2], [112, 128]);
+/// assert_eq!(renju_from_sgf(b"(;GM[4]SZ[19])", &mut out), 20 << 16);
+/// ```
+pub fn renju_from_sgf(text: &[u8], out: &mut [u8]) -> u32 {
+    unsafe { ffi::renju_from_sgf(text.as_ptr(), text.len(), out.as_mut_ptr(), out.len()) }
 }

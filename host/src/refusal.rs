@@ -67,6 +67,8 @@ pub enum Refusal {
     NotNext = 18,
     /// 19: two lists of which neither begins the other.
     ApartLists = 19,
+    /// 20: an SGF text outside the subset that is read.
+    OutsideSubset = 20,
 }
 
 impl Refusal {
@@ -75,10 +77,10 @@ impl Refusal {
     /// ```
     /// use renju::Refusal;
     ///
-    /// assert_eq!(Refusal::ALL.len(), 19);
+    /// assert_eq!(Refusal::ALL.len(), 20);
     /// assert_eq!(Refusal::ALL[0].number(), 1);
     /// ```
-    pub const ALL: [Self; 19] = [
+    pub const ALL: [Self; 20] = [
         Self::TextLength,
         Self::TextByte,
         Self::XPart,
@@ -98,9 +100,10 @@ impl Refusal {
         Self::ForeignGame,
         Self::NotNext,
         Self::ApartLists,
+        Self::OutsideSubset,
     ];
 
-    /// The documents' number, 1 to 19.
+    /// The documents' number.
     ///
     /// ```
     /// assert_eq!(renju::Refusal::Occupied.number(), 11);
@@ -109,7 +112,7 @@ impl Refusal {
         self as u8
     }
 
-    /// The refusal of a number; none for 0 and for a number over 19.
+    /// The refusal of a number; none for 0 and for a number that is not used.
     ///
     /// ```
     /// use renju::Refusal;
@@ -138,6 +141,7 @@ impl Refusal {
             17 => Self::ForeignGame,
             18 => Self::NotNext,
             19 => Self::ApartLists,
+            20 => Self::OutsideSubset,
             _ => return None,
         })
     }
@@ -172,6 +176,7 @@ impl Refusal {
             Self::ForeignGame => "the move is of another game, or no game number is left",
             Self::NotNext => "the move's number is not next, or there is no such move",
             Self::ApartLists => "neither list begins the other",
+            Self::OutsideSubset => "the SGF text is outside the subset that is read",
         }
     }
 }
@@ -205,7 +210,7 @@ pub const fn answer(word: u32) -> Result<u16, Refusal> {
     if refused == 0 {
         return Ok(answer);
     }
-    // No function gives a number over 19, so each has its own refusal here.
+    // No function gives another number, so each has its own refusal here.
     match Refusal::from_number(refused as u8) {
         Some(refusal) => Err(refusal),
         None => Err(Refusal::Output),

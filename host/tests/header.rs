@@ -1,8 +1,8 @@
 //! The same functions in the C header, raw.rs and the archive's source; the same numbers in C and
 //! Rust.
 
-use renju::{CELLS, Colour, DIAGRAM, Kind, MOVES, PRETTY, RECORD, REPORT, ROWS, ROWS_ON};
-use renju::{Reason, Refusal, TEXT, Verdict, View};
+use renju::{CELLS, Colour, DIAGRAM, Kind, MOVES, PRETTY, RECORD, REPORT, ROWS};
+use renju::{ROWS_ON, Reason, Refusal, SGF, TEXT, Verdict, View};
 use std::collections::BTreeMap;
 use std::fs;
 use std::path::Path;
@@ -187,6 +187,7 @@ fn same_numbers() {
             ("RENJU_REPORT", REPORT),
             ("RENJU_REASON_NONE", 0),
             ("RENJU_RECORD", RECORD),
+            ("RENJU_SGF", SGF),
         ]
         .map(|(name, number)| (name.to_owned(), number)),
     );

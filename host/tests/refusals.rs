@@ -16,7 +16,7 @@ fn numbers_and_meanings() {
         assert_eq!(said, format!("refused {number}: {meaning}"));
         assert!(meanings.insert(meaning), "{meaning}, twice");
     }
-    for number in (0..=0).chain(20..=u8::MAX) {
+    for number in (0..=0).chain(21..=u8::MAX) {
         assert_eq!(Refusal::from_number(number), None);
     }
     assert_eq!(answer(65535), Ok(65535));

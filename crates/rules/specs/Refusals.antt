@@ -74,6 +74,10 @@ malformed = 15
 abbrev pub turnedView : ℕ
 turnedView = 16
 
+-- "20 for anything outside the subset"
+abbrev pub outsideSubset : ℕ
+outsideSubset = 20
+
 -- ---- the order
 
 -- refusal n, unless the test passes

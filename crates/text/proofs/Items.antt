@@ -137,20 +137,20 @@ codes-all (item ∷ items) z =
     let n = first-none (itemRefusal item) (itemsRefusal items) z in
     rw (eq-eqb (itemRefusal item) 0 (n .0), codes-all items (n .1))
 
--- one code more, kept behind n others
-module _ (all : List ℕ) (n code : ℕ) (others : List ℕ) (e : drop n all ≡ code ∷ others) (room : n < 4097) where
-  pub keep-code : (buf : List ℕ) → Wrote (zeros 4097) 0 (take n all) buf n → (r : ℕ) (buf′ : List ℕ)
-      → (r ≡ keptTo buf n true (code ∷ [])) × (buf′ ≡ keptIn buf n true (code ∷ [])) → (r ≡ n + 1) × Wrote (zeros 4097) 0
+-- one code more, kept behind n others in a buffer of `size` bytes
+module _ (size : ℕ) (all : List ℕ) (n code : ℕ) (others : List ℕ) (e : drop n all ≡ code ∷ others) (room : n < size) where
+  pub keep-code : (buf : List ℕ) → Wrote (zeros size) 0 (take n all) buf n → (r : ℕ) (buf′ : List ℕ)
+      → (r ≡ keptTo buf n true (code ∷ [])) × (buf′ ≡ keptIn buf n true (code ∷ [])) → (r ≡ n + 1) × Wrote (zeros size) 0
       (take (n + 1) all) buf′ (n + 1)
   keep-code buf h r buf′ k =
       let p = h .place in
       let z : n + 1 ≡ suc n = omega arith in
-      let w = wrote-keep (zeros 4097) 0 (take n all) buf n true (code ∷ []) r buf′ h (omega (arith, length-zeros 4097)) k in
+      let w = wrote-keep (zeros size) 0 (take n all) buf n true (code ∷ []) r buf′ h (omega (arith, length-zeros size)) k in
       let c = take-suc all n 0 (next-in 0 all n code others e) in
       let y : take n all ++ (code ∷ []) ≡ take (n + 1) all = rw (z, c, next-is 0 all n code others e) in
       let v = wrote-as w y in
       let q : r ≡ n + 1 = omega (arith, w .place, lib.ListN.length-append (take n all) (code ∷ [])) in
-      (q, subst (λ (m : ℕ). Wrote (zeros 4097) 0 (take (n + 1) all) buf′ m) q v)
+      (q, subst (λ (m : ℕ). Wrote (zeros size) 0 (take (n + 1) all) buf′ m) q v)
 
 -- the state of the loop: n codes are kept, and the text from i on has the other items
 abbrev pub Reading : List ℕ → List ℕ → ℕ → ℕ → Type 0
@@ -182,7 +182,7 @@ module _ (t codes : List ℕ) (n i : ℕ) (inv : Reading t codes n i) (item : Li
       ∙ ap (λ (k : ℕ). k ∷ leadingCodes others) (sym (item-code item found ef good))
 
   kept-code : (r ≡ n + 1) × Wrote (zeros 4097) 0 (take (n + 1) all) codes′ (n + 1)
-  kept-code = keep-code all n (found .code) (leadingCodes others) rest (omega (arith, inv .0, inv .1, inv .2)) codes (inv .5) r codes′ kept
+  kept-code = keep-code 4097 all n (found .code) (leadingCodes others) rest (omega (arith, inv .0, inv .1, inv .2)) codes (inv .5) r codes′ kept
 
   pub turned : Turned t others n r codes′
   turned =

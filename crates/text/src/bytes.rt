@@ -16,7 +16,7 @@ pub fn is_space(b: u8) -> bool
 }
 
 // How many bytes of white space stand at the start.
-fn start(s: &[u8]) -> usize
+pub fn leading_space(s: &[u8]) -> usize
     ensures { λ r. ⌜ r ≡ leading (now (s .entry)) ⌝ }
 {
     let mut i = 0;
@@ -47,7 +47,7 @@ fn stop(s: &[u8]) -> usize
 pub fn trimmed(s: &[u8]) -> &[u8]
     ensures { λ r. ⌜ now r ≡ trim (now (s .entry)) ⌝ }
 {
-    let t = tail(s, start(s));
+    let t = tail(s, leading_space(s));
     head(t, stop(t))
 }
 

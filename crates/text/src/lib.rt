@@ -10,6 +10,7 @@ mod points;
 pub use boards::read_board;
 pub use boards::read_diagram;
 pub use bytes::is_space;
+pub use bytes::leading_space;
 pub use bytes::text_refusal;
 pub use bytes::trimmed;
 pub use diagram::read_diagram_cells;

@@ -1,8 +1,8 @@
-//! The host interface beside the original; stored games and the move feed beside plain readings of
-//! document 02.
+//! The host interface beside the original; what document 02 adds beside plain readings of it.
 
 pub mod differential;
 pub mod feed;
 pub mod reading;
+pub mod sgf;
 pub mod stored;
 pub mod timing;

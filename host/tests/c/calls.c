@@ -164,6 +164,18 @@ static void feeds(void) {
     say("feed_missing", renju_feed_missing(all, 2, other, 1), 0);
 }
 
+/* H8 and I9 written and read back; a text that Black does not begin; a code that is none. */
+static void sgf_texts(void) {
+    uint8_t moves[] = {112, 128, 225};
+    static uint8_t text[RENJU_SGF + 1];
+    say("to_sgf", renju_to_sgf(moves, 2, text, RENJU_SGF), 0);
+    printf("%s\n", (const char *)text);
+    say("from_sgf", renju_from_sgf(text, 26, out, sizeof out), 1);
+    text[14] = 'W';
+    say("from_sgf", renju_from_sgf(text, 26, out, sizeof out), 1);
+    say("to_sgf", renju_to_sgf(moves, 3, out, sizeof out), 1);
+}
+
 int main(void) {
     texts();
     points();
@@ -174,5 +186,6 @@ int main(void) {
     records();
     counts();
     feeds();
+    sgf_texts();
     return 0;
 }

@@ -9,8 +9,8 @@ use borrow.Author.Needs.{needs}
 use Rattle.text.proofs.bytes.trimmed.Statement.{statement}
 use Rattle.text.proofs.bytes.trimmed.Tie as tie
 
-start-requires : tie.Need-start-requires
-start-requires c κs = search needs
+leading-space-requires : tie.Need-leading-space-requires
+leading-space-requires c κs = search needs
 
 tail-requires : tie.Need-tail-requires
 tail-requires c κs = search needs
@@ -27,9 +27,9 @@ returns c =
     let s = now (c .before .before .before .before .before .args .s) in
     let t = now (c .before .before .tail .result) in
     c .head .ensures ∙ ap (λ (k : ℕ). take k t) (c .before .stop .ensures) ∙ sym (end-take t)
-    ∙ ap trimEnd (c .before .before .tail .ensures ∙ ap (λ (k : ℕ). drop k s) (c .before .before .before .start .ensures) ∙ sym
+    ∙ ap trimEnd (c .before .before .tail .ensures ∙ ap (λ (k : ℕ). drop k s) (c .before .before .before .leading-space .ensures) ∙ sym
     (trim-start s))
 
 pub trimmed-spec : {M : Type 1} → statement M
 trimmed-spec =
-    tie.close (tie.spec start-requires tail-requires stop-requires head-requires returns)
+    tie.close (tie.spec leading-space-requires tail-requires stop-requires head-requires returns)
