@@ -176,6 +176,12 @@ uint32_t renju_forbidden(const uint8_t *cells, size_t cells_len, uint8_t code);
  * five. Refusals 9, 8. */
 uint32_t renju_forbidden_strict(const uint8_t *cells, size_t cells_len, uint8_t code);
 
+/* How deep the strict question at a point goes, with its verdict: 256 times the depth plus the
+ * verdict. The depth is 0 at an occupied point, 1 where the question asks no other, else one more
+ * than the deepest question at the eye of a three that the stone would make; it is at most the
+ * number of empty points. Refusals 9, 8. */
+uint32_t renju_depth(const uint8_t *cells, size_t cells_len, uint8_t code);
+
 /* The points that the strict verdict forbids to Black: how many; two bytes each, verdict and code,
  * by code. Refusals 9, 13. */
 uint32_t renju_forbidden_points(const uint8_t *cells, size_t cells_len, uint8_t *out,

@@ -146,6 +146,24 @@ impl Cells {
         FAST.forbidden_strict(self, point)
     }
 
+    /// How deep the strict question at a point goes: 0 at an occupied point, 1
+    /// where it asks no other question, else one more than the deepest question
+    /// at the eye of a three that the stone would make, those after the answer is
+    /// known among them. It is at most the number of empty points. The stack that
+    /// a question takes follows from it (docs/PERFORMANCE.md).
+    ///
+    /// ```
+    /// let cells: renju::Cells = "G8,I8,H7,H9/A1".parse()?;
+    /// assert_eq!(cells.depth("H8".parse()?), 2);
+    /// assert_eq!(cells.depth("O15".parse()?), 1);
+    /// assert_eq!(cells.depth("A1".parse()?), 0);
+    /// # Ok::<(), renju::Refusal>(())
+    /// ```
+    pub fn depth(&self, point: Point) -> u8 {
+        // The depth is the answer's high byte, the verdict its low one.
+        (given(raw::renju_depth(&self.bytes, point.code())) >> 8) as u8
+    }
+
     /// Every point that is forbidden to Black by the strict verdict, with the
     /// kind, by code.
     ///

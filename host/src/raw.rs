@@ -95,6 +95,7 @@ mod ffi {
         ) -> u32;
         pub fn renju_forbidden(cells: *const u8, cells_len: usize, code: u8) -> u32;
         pub fn renju_forbidden_strict(cells: *const u8, cells_len: usize, code: u8) -> u32;
+        pub fn renju_depth(cells: *const u8, cells_len: usize, code: u8) -> u32;
         pub fn renju_forbidden_points(
             cells: *const u8,
             cells_len: usize,
@@ -508,6 +509,21 @@ pub fn renju_forbidden(cells: &[u8], code: u8) -> u32 {
 /// ```
 pub fn renju_forbidden_strict(cells: &[u8], code: u8) -> u32 {
     unsafe { ffi::renju_forbidden_strict(cells.as_ptr(), cells.len(), code) }
+}
+
+/// How deep the strict question at a point goes, with its verdict: 256 times
+/// the depth plus the verdict. Refusals 9, 8.
+///
+/// ```
+/// # use renju::raw::*;
+/// let mut cells = [0; 225];
+/// renju_read(b"G8,I8,H7,H9/A1", &mut cells);
+/// // A double three (1), told by one question inside another.
+/// assert_eq!(renju_depth(&cells, 112), 2 * 256 + 1);
+/// assert_eq!(renju_depth(&cells, 0), 0);
+/// ```
+pub fn renju_depth(cells: &[u8], code: u8) -> u32 {
+    unsafe { ffi::renju_depth(cells.as_ptr(), cells.len(), code) }
 }
 
 /// The points forbidden to Black: how many, each in two bytes, kind and code,

@@ -27,7 +27,7 @@ fn compile(compiler: &str, language: [&str; 2], source: &Path, name: &str) -> Pa
     command.arg(language[0]).args(FLAGS);
     command.arg("-I").arg(package().join("include"));
     command.args(["-x", language[1]]).arg(source);
-    command.args(["-x", "none", env!("RENJU_ARCHIVE_FILE")]);
+    command.args(["-x", "none", env!("RENJU_ARCHIVE_FILE"), "-pthread"]);
     command.arg("-o").arg(&program);
     let output = command.output().unwrap_or_else(|error| {
         panic!("the C header is tested with `{compiler}`, which cannot be run: {error}")
@@ -111,4 +111,47 @@ fn c_example_of_the_root() {
          out[0] == RENJU_DOUBLE_THREE, out[1]);\nreturn 0;\n}}\n"
     );
     assert_eq!(run_c(&code, "root"), "0 1: 1 112\n");
+}
+
+/// The stack that a strict question takes on x86-64, by its depth, as docs/PERFORMANCE.md has it: what
+/// comes before the first trial stone, each question inside another, and the last look at a point.
+#[cfg(target_arch = "x86_64")]
+fn stack_of(depth: usize) -> usize {
+    2544 + 160 * (depth - 1) + 132
+}
+
+/// The deepest question that was found, on a thread that has so many bytes for it and no more; with the
+/// bytes of a question one less deep it dies.
+#[cfg(target_arch = "x86_64")]
+#[test]
+fn the_deepest_question_has_stack_enough() {
+    use renju::{Cells, Point};
+    let known = text("tests/deepest.txt");
+    let mut lines = known.lines();
+    let (board, point) = (
+        lines.next().expect("a board"),
+        lines.next().expect("a point"),
+    );
+    let cells: Cells = board.parse().expect("a board");
+    let point: Point = point.parse().expect("a point");
+    let depth = usize::from(cells.depth(point));
+    assert_eq!(lines.next(), Some(format!("{depth}").as_str()));
+    let source = package().join("tests/c/stack.c");
+    let program = compile("cc", ["-std=c99", "c"], &source, "stack");
+    let asked = |bytes: usize| {
+        let words = [board, &point.code().to_string(), &bytes.to_string()];
+        Command::new(&program)
+            .args(words)
+            .output()
+            .expect("it runs")
+    };
+    let enough = asked(stack_of(depth).next_multiple_of(16));
+    assert!(enough.status.success(), "{}", said(&enough));
+    let verdict = cells.forbidden_strict(point).number();
+    assert_eq!(
+        String::from_utf8_lossy(&enough.stdout),
+        format!("{verdict}\n")
+    );
+    // Killed, by what lies below the stack.
+    assert_eq!(asked(stack_of(depth - 1)).status.code(), None);
 }

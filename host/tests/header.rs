@@ -123,7 +123,7 @@ fn parameter_in_c(parameter: &str) -> String {
 #[test]
 fn same_functions() {
     let header = header_prototypes();
-    assert_eq!(header.len(), 31);
+    assert_eq!(header.len(), 37);
     assert_eq!(header, raw_prototypes());
     assert_eq!(header, source_prototypes());
 }

@@ -85,6 +85,7 @@ fn ask_everything(bytes: &[u8], text: &[u8], point: Point) {
     black_box(cells.neighbors(point, 14, true)).unwrap();
     black_box(cells.forbidden(point)).unwrap();
     black_box(cells.forbidden_strict(point));
+    black_box(cells.depth(point));
     for cross in &cells.turned(View::HalfTurn).forbidden_points() {
         write!(Nowhere, "{cross}").unwrap();
     }

@@ -205,6 +205,9 @@ fn first_refusal_of_several() {
     refused(8, |out| renju_game(&[112, 112, 225], out));
     assert_eq!(renju_turn_point(225, 8), 8 << 16);
     assert_eq!(renju_turn_point(224, 8), 12 << 16);
+    assert_eq!(renju_depth(&bad, 225), 9 << 16);
+    assert_eq!(renju_depth(&good[..224], 0), 9 << 16);
+    assert_eq!(renju_depth(&good, 225), 8 << 16);
 }
 
 /// .. of the questions that both referees answer.

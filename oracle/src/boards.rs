@@ -143,7 +143,7 @@ fn lattice(dice: &mut Dice) -> Cells {
 }
 
 /// One to three points set to something else, mostly to black or empty.
-fn changed(dice: &mut Dice, cells: &Cells) -> Cells {
+pub fn changed(dice: &mut Dice, cells: &Cells) -> Cells {
     let mut next = *cells;
     for _ in 0..1 + dice.below(3) {
         let value = dice.pick(&[EMPTY, EMPTY, BLACK, BLACK, BLACK, WHITE]);

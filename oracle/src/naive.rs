@@ -1,5 +1,5 @@
-//! A naive reading of sections 3 to 6 of document 01, with request 6 of
-//! document 02, cell by cell.
+//! A naive reading of sections 3 to 6 of document 01, with requests 6 and 14
+//! of document 02, cell by cell.
 //!
 //! A board is 225 cell values and a line is its values one after another.
 //! Nothing here is packed into bits: the two masks of a row are added up
@@ -481,6 +481,44 @@ pub fn strict(cells: &Cells, p: usize) -> Answer {
     let mut answer = plain(cells, p);
     answer.depth += 1;
     answer
+}
+
+/// How deep a strict question goes, document 02, No. 14: "0 at an occupied
+/// point; 1 where nothing nested is asked; else one more than the deepest
+/// question at the eye of any Three through the point on the board with the
+/// stone, also those after the answer is known; an eye that completes a five
+/// counts 1."
+pub fn question_depth(cells: &Cells, p: usize) -> usize {
+    if cells[p] != EMPTY {
+        return 0;
+    }
+    if !asks_nested(cells, p) {
+        return 1;
+    }
+    let mut next = *cells;
+    next[p] = BLACK;
+    let mut deepest = 0;
+    for (line, i) in lines_through(&next, p) {
+        for j in starts_on(line.cells(), i, BLACK, Three) {
+            let eye = eyes(line.cells(), j, Three).next().expect("one eye");
+            let eye = point_at(line.key, eye);
+            let five = completes_five(&next, eye);
+            let depth = if five { 1 } else { question_depth(&next, eye) };
+            deepest = deepest.max(depth);
+        }
+    }
+    deepest + 1
+}
+
+/// Whether the strict question at an empty point asks about a Three: no five is
+/// completed, neither Overline nor DoubleFour applies, and more than one Two
+/// goes through the point.
+fn asks_nested(cells: &Cells, p: usize) -> bool {
+    let lines: Vec<_> = lines_through(cells, p).collect();
+    !completes_five(cells, p)
+        && black_starts(&lines, Overlining).is_empty()
+        && !more_than_one(&black_starts(&lines, Sword))
+        && more_than_one(&black_starts(&lines, Two))
 }
 
 /// "The forbidden list holds each empty point whose strict verdict is a

@@ -6,6 +6,8 @@ pub mod Asked
 pub mod Words
 -- the fast referee and the second one are equal, by their contracts
 pub mod Equal
+-- a depth and a verdict as one number
+pub mod Paired
 -- a game's report handed out, byte by byte
 pub mod Handed
 -- cells turned by one view and then by another, and turned back, of the calls

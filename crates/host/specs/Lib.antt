@@ -2,3 +2,4 @@
 pub mod Answers
 pub mod Feeds
 pub mod Games
+pub mod Depths

@@ -34,7 +34,7 @@ use Rattle.referee.proofs.RowsSeen.{strict-is}
 
 module _ (l : List ℕ) (p d j : ℕ) (s : Sound l) (hp : p < 225) (hd : d < 4) (t : T (rowsThrough Black Three (cellsOf l) p d j)) where
   -- its line is stored
-  has-line : hasPlace d p ≡ true
+  pub has-line : hasPlace d p ≡ true
   has-line = go (decide (hasPlace d p))
     where
       go : (hasPlace d p ≡ true) ⊎ (hasPlace d p ≡ false) → hasPlace d p ≡ true

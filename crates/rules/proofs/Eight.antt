@@ -14,7 +14,7 @@ use Rattle.rules.specs.Line.{Stones, rowAt, span, through, among, isEye}
 use Rattle.rules.specs.Point.{lineNo, cellNo, lineSize, pointAt}
 use Rattle.rules.specs.Grid.{put, Starts, stoneAt, rowOn, eyeOn, rowsThrough}
 use Rattle.rules.specs.Forbidden.{Ask, someRow, moreThanOne, goodEye, isReal, realThrees, withBlack}
-use Rattle.rules.specs.Forbidden.{isOverline, isDoubleFour, isDoubleThree, plainWith}
+use Rattle.rules.specs.Forbidden.{isOverline, isDoubleFour, moreTwos, isDoubleThree, plainWith}
 use Rattle.rules.specs.Forbidden.{completesFive, strictWith, nestedN}
 use Rattle.rules.specs.Views.{turn, undo}
 use Rattle.rules.specs.declared.Player.{Player}
@@ -77,7 +77,7 @@ abbrev pub Moved : ℕ → ℕ → ℕ → ℕ → ℕ → Type 0
 Moved zero n w j s = j ≡ s
 Moved (suc b) n w j s = j + s + w ≡ n
 
-moved-matched : (b n j s : ℕ) → Moved b n 1 j s → T (matched b n j s)
+pub moved-matched : (b n j s : ℕ) → Moved b n 1 j s → T (matched b n j s)
 unfolding matched
 moved-matched zero n j s e = subst (λ (x : ℕ). T (eqb j x)) e (eqb-refl j)
 moved-matched (suc b) n j s e = subst⁻¹ (λ (x : ℕ). T (eqb x n)) e (eqb-refl n)
@@ -87,12 +87,12 @@ unfolding matched
 matched-moved zero n j s t = eqb→eq j s t
 matched-moved (suc b) n j s t = eqb→eq (j + s + 1) n t
 
-moved-lt : (b n j s : ℕ) → Moved b n 1 j s → j < n → s < n
+pub moved-lt : (b n j s : ℕ) → Moved b n 1 j s → j < n → s < n
 moved-lt zero n j s e h = subst (λ (x : ℕ). x < n) e h
 moved-lt (suc b) n j s e h = omega arith
 
 -- where a thing of w cells at j goes
-move : (b n w j : ℕ) → j + w ≤ n → (s : ℕ) × Moved b n w j s
+pub move : (b n w j : ℕ) → j + w ≤ n → (s : ℕ) × Moved b n w j s
 move zero n w j h = (j, refl)
 move (suc b) n w j h = (n - w - j, omega arith)
 
@@ -102,7 +102,7 @@ moved-apart zero n w j k s r e e′ h = inl (omega arith)
 moved-apart (suc b) n w j k s r e e′ h = inr (omega arith)
 
 -- the line through p in direction d: its size, and the player's stones on it
-abbrev sizeAt : ℕ → ℕ → ℕ
+abbrev pub sizeAt : ℕ → ℕ → ℕ
 sizeAt d p = lineSize d (lineNo d p)
 
 abbrev stonesAt : Player → List ℕ → ℕ → ℕ → Stones
@@ -171,7 +171,7 @@ module _ (v : ℕ) (A B : List ℕ) (p d : ℕ) (hv : v < 8) (t : Turned v A B) 
       (λ b n o w o′ w′ mo mw x. row-back (isBlack r) n o w o′ w′ mo mw k j s (x .0) (x .1))
       (m, u)
 
-  eye-turn : (r : Player) (j s e h : ℕ) → Moved (flips v d) (sizeAt d p) 4 j s → Moved (flips v d) (sizeAt d p) 1 e h
+  pub eye-turn : (r : Player) (j s e h : ℕ) → Moved (flips v d) (sizeAt d p) 4 j s → Moved (flips v d) (sizeAt d p) 1 e h
       → T (eyeOn r Three A d (lineNo d p) j e) → T (eyeOn r Three B (turnDir v d) (lineNo (turnDir v d) (turn v p)) s h)
   unfolding eyeOn
   eye-turn r j s e h m m′ u =
@@ -180,7 +180,7 @@ module _ (v : ℕ) (A B : List ℕ) (p d : ℕ) (hv : v < 8) (t : Turned v A B) 
       (λ b n o w o′ w′ mo mw x. eye-back (isBlack r) n o w o′ w′ mo mw Three j s e h (x .0) (x .1) (x .2))
       (m, m′, u)
 
-  through-turn : (r : Player) (k : RowKind) (j s : ℕ) → Moved (flips v d) (sizeAt d p) (span k) j s
+  pub through-turn : (r : Player) (k : RowKind) (j s : ℕ) → Moved (flips v d) (sizeAt d p) (span k) j s
       → T (rowsThrough r k A p d j) → T (rowsThrough r k B (turn v p) (turnDir v d) s)
   unfolding rowsThrough
   through-turn r k j s m u =
@@ -254,7 +254,7 @@ kept-eq P k v A B p hv t hp =
     (turn-lt v p hv hp) u))
     (k v A B p hv t hp)
 
-rows-carried : (who : Player) (k : RowKind) (v : ℕ) (A B : List ℕ) (p : ℕ) → v < 8 → Turned v A B → p < 225
+pub rows-carried : (who : Player) (k : RowKind) (v : ℕ) (A B : List ℕ) (p : ℕ) → v < 8 → Turned v A B → p < 225
     → Carried (rowsThrough who k A p) (rowsThrough who k B (turn v p))
 rows-carried who k v A B p hv t hp =
     carried v A B p hv t hp who k (rowsThrough who k A p) (rowsThrough who k B (turn v p)) (λ d j hd u. u) (λ d j hd u. u)
@@ -264,6 +264,11 @@ rows-carried who k v A B p hv t hp =
 pub row-kept : (who : Player) (k : RowKind) → Kept (λ cells p. someRow (rowsThrough who k cells p))
 row-kept who k v A B p hv t hp u =
     someRow-carried (rowsThrough who k A p) (rowsThrough who k B (turn v p)) (rows-carried who k v A B p hv t hp) u
+
+-- .. and more than one Two
+pub twos-kept : Kept moreTwos
+twos-kept v A B p hv t hp u = more-carried (rowsThrough Black Two A p) (rowsThrough Black Two B (turn v p))
+    (rows-carried Black Two v A B p hv t hp) u
 
 pub overline-kept : Kept isOverline
 unfolding isOverline
@@ -321,7 +326,7 @@ pub double-three-kept : (ask : Ask Verdict) → Blind ask → Kept (isDoubleThre
 unfolding isDoubleThree
 double-three-kept ask blind v A B p hv t hp u =
     and-intro (moreThanOne (rowsThrough Black Two B (turn v p))) (moreThanOne (realThrees ask (withBlack B (turn v p)) (turn v p)))
-    (more-carried (rowsThrough Black Two A p) (rowsThrough Black Two B (turn v p)) (rows-carried Black Two v A B p hv t hp)
+    (twos-kept v A B p hv t hp
     (and-left (moreThanOne (rowsThrough Black Two A p)) (moreThanOne (realThrees ask (withBlack A p) p)) u))
     (more-carried (realThrees ask (withBlack A p) p) (realThrees ask (withBlack B (turn v p)) (turn v p))
     (real-carried ask blind v (withBlack A p) (withBlack B (turn v p)) p hv (turned-put Black p hv hp t) hp)

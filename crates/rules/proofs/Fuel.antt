@@ -33,7 +33,7 @@ pub record Nests {A : Type 0} (rest : A) (step : Ask A → Ask A) : Type 0 where
       → ((e : ℕ) → e < 225 → ask (withBlack cells p) e ≡ ask′ (withBlack cells p) e) → step ask cells p ≡ step ask′ cells p
 
 -- one empty point fewer
-fewer : (cells : List ℕ) (p : ℕ) → length cells ≡ 225 → p < 225 → isEmpty (getD cells p 0) ≡ true
+pub fewer : (cells : List ℕ) (p : ℕ) → length cells ≡ 225 → p < 225 → isEmpty (getD cells p 0) ≡ true
     → empties cells ≡ suc (empties (withBlack cells p))
 fewer cells p l hp z = empties-put Black cells p (subst⁻¹ (λ (n : ℕ). p < n) l hp) (true-T z)
 

@@ -9,7 +9,7 @@ use lib.Dec.{T, ltb}
 use lib.ListN.{getD}
 use Rattle.rules.specs.Numbers.{isBlack, isNone}
 use Rattle.rules.specs.Line.{Stones, noStone, rowAt, among, emptyAt, isEye}
-use Rattle.rules.specs.Point.{lineNo, lineSize}
+use Rattle.rules.specs.Point.{lineNo, lineSize, pointAt}
 use Rattle.rules.specs.Grid.{isEmpty, stoneAt, rowOn, eyeOn, rowsThrough}
 use Rattle.rules.specs.Forbidden.{Ask, completesFive, goodEye, isReal, gapFrom, eyeOf}
 use Rattle.rules.specs.declared.Player.the-variants.{Black, White}
@@ -18,7 +18,7 @@ use Rattle.rules.specs.declared.Verdict.{Verdict}
 use Rattle.rules.proofs.Logic.{T-true, along, and-right}
 use Rattle.rules.proofs.Address.{size-le, line-here, point-lt}
 use Rattle.rules.proofs.Rows.{stone-in, through-row, eye-inside}
-use Rattle.rules.proofs.Eye.{firstGap, eye-some, eye-first, real-at}
+use Rattle.rules.proofs.Eye.{firstGap, eye-some, eye-first, eye-one, real-at}
 
 gap-is : (own : Stones) (j : ℕ) → j + firstGap (own j) (own (j + 1)) (own (j + 2)) ≡ gapFrom own j
 unfolding gapFrom
@@ -36,13 +36,25 @@ gap-eye black size own other j t =
     let s = eye-some black size own other j t in
     subst (λ (e : ℕ). T (isEye size own other Three j e)) (eye-first black size own other j t (s .0) (s .2) ∙ gap-is own j) (s .2)
 
+-- an eye of a Three has no stone
+pub eye-open : (cells : List ℕ) (d i j e : ℕ) → T (eyeOn Black Three cells d i j e) → isEmpty (getD cells (pointAt d i e) 0) ≡ true
+unfolding eyeOn isEye emptyAt noStone
+eye-open cells d i j e u =
+    let own = stoneAt Black cells d i in
+    let other = stoneAt White cells d i in
+    let free = not (own e) && not (other e) in
+    let inside = eye-inside Black Three cells d i j e u in
+    T-true (along
+    (ap₂ (λ (a b : Bool). not a && not b) (stone-in Black cells d i e inside) (stone-in White cells d i e inside))
+    (and-right (ltb e (lineSize d i)) free (and-right (among 4 j e) (ltb e (lineSize d i) && free) u)))
+
 -- ---- a Three of Black's through p, at start j of the line in direction d
 
 module _ (cells : List ℕ) (p d j : ℕ) (hp : p < 225) (hd : d < 4) (t : T (rowsThrough Black Three cells p d j)) where
   abbrev cell : ℕ
   cell = gapFrom (stoneAt Black cells d (lineNo d p)) j
 
-  eye-on : T (eyeOn Black Three cells d (lineNo d p) j cell)
+  pub eye-on : T (eyeOn Black Three cells d (lineNo d p) j (gapFrom (stoneAt Black cells d (lineNo d p)) j))
   unfolding eyeOn rowOn
   eye-on =
       gap-eye (isBlack Black) (lineSize d (lineNo d p)) (stoneAt Black cells d (lineNo d p)) (stoneAt White cells d (lineNo d p)) j
@@ -53,15 +65,15 @@ module _ (cells : List ℕ) (p d j : ℕ) (hp : p < 225) (hd : d < 4) (t : T (ro
 
   -- no stone stands there
   pub eye-free : isEmpty (getD cells (eyeOf cells p d j) 0) ≡ true
-  unfolding eyeOf eyeOn isEye emptyAt noStone
-  eye-free =
-      let i = lineNo d p in
-      let own = stoneAt Black cells d i in
-      let other = stoneAt White cells d i in
-      let free = not (own cell) && not (other cell) in
-      T-true (along
-      (ap₂ (λ (a b : Bool). not a && not b) (stone-in Black cells d i cell gap-inside) (stone-in White cells d i cell gap-inside))
-      (and-right (ltb cell (lineSize d i)) free (and-right (among 4 j cell) (ltb cell (lineSize d i) && free) eye-on)))
+  unfolding eyeOf
+  eye-free = eye-open cells d (lineNo d p) j cell eye-on
+
+  -- it has no other eye
+  pub eye-only : (e : ℕ) → T (eyeOn Black Three cells d (lineNo d p) j e) → e ≡ gapFrom (stoneAt Black cells d (lineNo d p)) j
+  unfolding eyeOn rowOn
+  eye-only e u =
+      eye-one (isBlack Black) (lineSize d (lineNo d p)) (stoneAt Black cells d (lineNo d p)) (stoneAt White cells d (lineNo d p)) j
+      (through-row Black Three cells p d j t) e cell u eye-on
 
   pub eye-lt : eyeOf cells p d j < 225
   unfolding eyeOf

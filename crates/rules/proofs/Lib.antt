@@ -56,6 +56,8 @@ pub mod Eight
 pub mod Views
 -- one view after another: which view that is; grouping, view 0 and the return, once for all that is turned, and of points, cells and lists
 pub mod Composed
+-- how deep a strict question goes: the same fuel; at most the number of empty points; the same in all eight views; the search for the deepest
+pub mod Depth
 -- what a five is, for Black and for White; the Fours before the stone tell it; it is the same in all eight views
 pub mod Fives
 -- C1 to C12; beside them the boards that section 9 and document 02, No. 6, turn

@@ -45,7 +45,8 @@ module _ (cells : List ℕ) (p : ℕ) where
     abbrev at : ℕ → Bool
     at = numbered (startsOf starts)
 
-    start-is : (k : ℕ) → k < 64 → at k ≡ threes k
+    -- what the masks name are the Threes
+    pub start-is : (k : ℕ) → k < 64 → numbered (startsOf starts) k ≡ numbered (rowsThrough Black Three cells p) k
     unfolding numbered
     start-is k hk =
         ap (λ (m : List ℕ). startsOf m (k / 16) (k % 16)) e

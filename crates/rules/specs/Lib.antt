@@ -8,6 +8,7 @@ pub mod Line
 pub mod Point
 pub mod Grid
 pub mod Forbidden
+pub mod Depth
 pub mod Fives
 pub mod Views
 pub mod Cases

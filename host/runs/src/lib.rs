@@ -1,5 +1,6 @@
 //! The host interface beside the original; what document 02 adds beside plain readings of it.
 
+pub mod depth;
 pub mod differential;
 pub mod feed;
 pub mod reading;

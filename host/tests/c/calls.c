@@ -69,6 +69,8 @@ static void verdicts(void) {
     say("forbidden", renju_forbidden(cells, sizeof cells, 112), 0);
     say("forbidden", renju_forbidden(cells, sizeof cells, 0), 0);
     say("forbidden_strict", renju_forbidden_strict(cells, sizeof cells, 112), 0);
+    say("depth", renju_depth(cells, sizeof cells, 112), 0);
+    say("depth", renju_depth(cells, sizeof cells, 225), 0);
     say("forbidden_points", renju_forbidden_points(cells, sizeof cells, out, sizeof out), 2);
     second_verdicts();
     say("put", renju_put(cells, sizeof cells, 67, RENJU_WHITE), 0);
