@@ -51,6 +51,8 @@ extern "C" {
 #define RENJU_RECORD 232  /* a stored game in tagged form has at most so many bytes */
 #define RENJU_SGF 1364    /* a game's SGF text has at most so many bytes */
 
+#define RENJU_MENDED 1152 /* room enough for the two lines of any mended list */
+
 /* Why a question was refused. */
 enum renju_refusals {
     RENJU_TEXT_LENGTH = 1, /* a text of over 4,096 bytes */
@@ -287,6 +289,12 @@ uint32_t renju_to_sgf(const uint8_t *moves, size_t moves_len, uint8_t *out, size
  * tokens: `(` `)` `;`, a name such as `GM`, a value with its brackets. Refusals 1, 2, 20 for anything
  * else, 14, 13. */
 uint32_t renju_from_sgf(const uint8_t *text, size_t text_len, uint8_t *out, size_t out_len);
+
+/* A hand-typed comma list of moves mended: how many bytes its two lines have, each ended by byte 10.
+ * The first has the leading moves up to the first item that is no point, or a point that is kept
+ * already; the second that item's number, from 1, and its reason (3 or 4 of the point, 1 for a
+ * repeat), or `0 0`. RENJU_MENDED bytes are room enough. Refusals 1, 2, 13. */
+uint32_t renju_mend(const uint8_t *text, size_t text_len, uint8_t *out, size_t out_len);
 
 #ifdef __cplusplus
 }

@@ -68,6 +68,10 @@
 //!
 //! [`sgf`] writes a [`Game`] as SGF text and reads it back.
 //!
+//! # Typed move lists
+//!
+//! [`mend`] keeps the leading moves of a hand-typed list, and says which item slips and why.
+//!
 //! # Refusals
 //!
 //! What can be refused is a `Result` with a [`Refusal`], which has the number that the Rattle and
@@ -89,6 +93,7 @@ mod game;
 mod kind;
 mod line;
 mod list;
+mod mend;
 mod point;
 mod questions;
 #[allow(unsafe_code)] // The calls into the archive.
@@ -108,6 +113,7 @@ pub use game::{Fault, Game, Reason, Report};
 pub use kind::Kind;
 pub use line::Line;
 pub use list::{Crosses, List, Points, Rows, RowsOn};
+pub use mend::{Mended, Slip, mend};
 pub use point::Point;
 pub use record::{Record, RecordBytes};
 pub use refusal::Refusal;
@@ -210,6 +216,13 @@ pub const RECORD: usize = 232;
 /// # Ok::<(), renju::Refusal>(())
 /// ```
 pub const SGF: usize = 1364;
+/// Room enough for the two lines of any mended list, in bytes.
+///
+/// ```
+/// let mut out = [0; renju::MENDED];
+/// assert_eq!(renju::raw::renju_mend(b"H8", &mut out), 7);
+/// ```
+pub const MENDED: usize = 1152;
 
 /// How many bytes a text may have.
 ///

@@ -259,6 +259,7 @@ mod ffi {
             out: *mut u8,
             out_len: usize,
         ) -> u32;
+        pub fn renju_mend(text: *const u8, text_len: usize, out: *mut u8, out_len: usize) -> u32;
     }
 }
 
@@ -827,4 +828,21 @@ pub fn renju_to_sgf(moves: &[u8], out: &mut [u8]) -> u32 {
 /// ```
 pub fn renju_from_sgf(text: &[u8], out: &mut [u8]) -> u32 {
     unsafe { ffi::renju_from_sgf(text.as_ptr(), text.len(), out.as_mut_ptr(), out.len()) }
+}
+
+/// A hand-typed comma list of moves mended: how many bytes its two lines have,
+/// each ended by byte 10. The first has the leading moves up to the first item
+/// that is no point, or a point that is kept already; the second that item's
+/// number, from 1, and its reason (3 or 4 of the point, 1 for a repeat), or
+/// `0 0`. Refusals 1, 2, 13.
+///
+/// ```
+/// # use renju::raw::*;
+/// let mut out = [0; renju::MENDED];
+/// assert_eq!(renju_mend(b"h8,H08", &mut out), 7);
+/// assert_eq!(out[..7], *b"H8\n2 1\n");
+/// assert_eq!(renju_mend(b"\x80", &mut out), 2 << 16);
+/// ```
+pub fn renju_mend(text: &[u8], out: &mut [u8]) -> u32 {
+    unsafe { ffi::renju_mend(text.as_ptr(), text.len(), out.as_mut_ptr(), out.len()) }
 }

@@ -1,8 +1,10 @@
 //! The same functions in the C header, raw.rs and the archive's source; the same numbers in C and
 //! Rust.
 
+use renju::{CELLS, Colour, DIAGRAM, Kind, MENDED, MOVES, PRETTY, RECORD, REPORT, ROWS, ROWS_ON};
 use renju::{CELLS, Colour, DIAGRAM, Kind, MOVES, PRETTY, RECORD, REPORT, ROWS};
 use renju::{ROWS_ON, Reason, Refusal, SGF, TEXT, Verdict, View};
+use renju::{Reason, Refusal, TEXT, Verdict, View};
 use std::collections::BTreeMap;
 use std::fs;
 use std::path::Path;
@@ -123,7 +125,7 @@ fn parameter_in_c(parameter: &str) -> String {
 #[test]
 fn same_functions() {
     let header = header_prototypes();
-    assert_eq!(header.len(), 37);
+    assert_eq!(header.len(), 38);
     assert_eq!(header, raw_prototypes());
     assert_eq!(header, source_prototypes());
 }
@@ -188,6 +190,7 @@ fn same_numbers() {
             ("RENJU_REASON_NONE", 0),
             ("RENJU_RECORD", RECORD),
             ("RENJU_SGF", SGF),
+            ("RENJU_MENDED", MENDED),
         ]
         .map(|(name, number)| (name.to_owned(), number)),
     );

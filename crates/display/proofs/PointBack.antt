@@ -53,15 +53,18 @@ module _ (p : ℕ) (h : p < 225) where
   no-comma : has comma (pointText p) ≡ false
   no-comma = not-false (and-right (eqb (itemCode (pointText p)) p) (not (has comma (pointText p))) rest)
 
-  -- its bytes
-  point-has : All (λ b. b < 128) (pointText p)
+  -- its bytes are a letter and digits
+  point-has : (P : ℕ → Type 0) → ((x : ℕ) → x < 15 → P (capitalA + x)) → ((d : ℕ) → d < 10 → P (digitZero + d)) → All P (pointText p)
   unfolding pointText
-  point-has = rw (lt-ltb p 225 h) (omega arith, number-has (λ b. b < 128) (λ d l. omega arith) (yOf p + 1) (omega arith))
+  point-has P letter digit = rw (lt-ltb p 225 h) (letter (xOf p) (omega arith), number-has P digit (yOf p + 1) (omega arith))
+
+  point-low : All (λ b. b < 128) (pointText p)
+  point-low = point-has (λ b. b < 128) (λ x l. omega arith) (λ d l. omega arith)
 
   -- a point that is written reads back as the same point: `text::read_point` of what `write_point` writes
   pub point-back : numberAnswer (pointTextRefusal (pointText p)) (itemCode (pointText p)) ≡ number.Is p
   unfolding numberAnswer pointTextRefusal first
-  point-back = rw (all-text (pointText p) point-has (omega (arith, point-short p)), point-good, point-code)
+  point-back = rw (all-text (pointText p) point-low (omega (arith, point-short p)), point-good, point-code)
 
 -- ---- a list of points, from the front on
 
@@ -149,9 +152,13 @@ list-parts c (d ∷ codes) h =
     parts-line comma (pointText c) (pointText d ++ behind codes) (no-comma c (h .0)) refl
     ∙ ap (λ (l : List (List ℕ)). pointText c ∷ l) (list-parts d codes (h .1))
 
+pub list-trim : (c : ℕ) (codes : List ℕ) → Points (c ∷ codes) → trim (pointsText (c ∷ codes)) ≡ pointsText (c ∷ codes)
+unfolding trim
+list-trim c codes h = rw (shape c codes, start-kept c (behind codes) (h .0), end-kept c codes h)
+
 list-shape : (c : ℕ) (codes : List ℕ) → Points (c ∷ codes) → parts comma (trim (pointsText (c ∷ codes))) ≡ texts (c ∷ codes)
-unfolding trim texts
-list-shape c codes h = rw (shape c codes, start-kept c (behind codes) (h .0), end-kept c codes h) (list-parts c codes h)
+unfolding texts
+list-shape c codes h = rw (list-trim c codes h, shape c codes) (list-parts c codes h)
 
 -- ---- what is read
 
@@ -171,18 +178,22 @@ points-at [] h i k = absurd (not-suc-le-zero k)
 points-at (c ∷ codes) h zero k = h .0
 points-at (c ∷ codes) h (suc i) k = points-at codes (h .1) i (le-of-suc-le-suc k)
 
-list-has : (codes : List ℕ) → Points codes → All (λ b. b < 128) (pointsText codes)
+-- the bytes of a list are letters, digits and commas
+pub list-has : (P : ℕ → Type 0) → ((x : ℕ) → x < 15 → P (capitalA + x)) → ((d : ℕ) → d < 10 → P (digitZero + d)) → P comma
+    → (codes : List ℕ) → Points codes → All P (pointsText codes)
 unfolding pointsText itemText
-list-has codes h =
-    all-gather (λ b. b < 128) (length codes) (pointItem codes)
-    (λ i l. all-append (λ b. b < 128) (only (ltb 0 i) (comma ∷ [])) (pointText (getD codes i 0))
-    (only-one (λ b. b < 128) (ltb 0 i) comma (omega arith))
-    (point-has (getD codes i 0) (points-at codes h i l)))
+list-has P letter digit parted codes h =
+    all-gather P (length codes) (pointItem codes)
+    (λ i l. all-append P (only (ltb 0 i) (comma ∷ [])) (pointText (getD codes i 0)) (only-one P (ltb 0 i) comma parted)
+    (point-has (getD codes i 0) (points-at codes h i l) P letter digit))
+
+list-low : (codes : List ℕ) → Points codes → All (λ b. b < 128) (pointsText codes)
+list-low codes h = list-has (λ b. b < 128) (λ x l. omega arith) (λ d l. omega arith) (omega arith) codes h
 
 -- A list of points, not empty, that is written in at most 4,096 bytes reads back as the same list: `text::read_points` of what
 -- `write_points` writes is not refused but for the room, and gives these codes.
 module _ (c : ℕ) (codes : List ℕ) (h : Points (c ∷ codes)) where
-  list-good : pointsRefusal (pointsText (c ∷ codes)) ≡ 0
+  pub list-good : pointsRefusal (pointsText (c ∷ codes)) ≡ 0
   unfolding pointsRefusal
   list-good = rw (list-shape c codes h) (texts-good (c ∷ codes) h)
 
@@ -190,7 +201,7 @@ module _ (c : ℕ) (codes : List ℕ) (h : Points (c ∷ codes)) where
   unfolding listTextRefusal
   list-read k =
       none-first (textRefusal (pointsText (c ∷ codes))) (pointsRefusal (pointsText (c ∷ codes)))
-      (all-text (pointsText (c ∷ codes)) (list-has (c ∷ codes) h) k) list-good
+      (all-text (pointsText (c ∷ codes)) (list-low (c ∷ codes) h) k) list-good
 
   pub list-back : pointsIn (pointsText (c ∷ codes)) ≡ c ∷ codes
   unfolding pointsIn

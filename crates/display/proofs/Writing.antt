@@ -12,7 +12,7 @@ use Rattle.rules.specs.Refusals.{first, unless}
 use Rattle.rules.specs.Tools.{gather, only}
 use Rattle.rules.proofs.Logic.{decide}
 use Rattle.lent.specs.Lists.{fits, listRefusal, listOut, keeps, keptTo, keptIn, zeros, Wrote, Held}
-use Rattle.lent.proofs.Laws.{wrote-none, wrote-keep, wrote-all, wrote-same, wrote-held, held-take, sets-laid, kept-out}
+use Rattle.lent.proofs.Laws.{wrote-none, wrote-as, wrote-keep, wrote-all, wrote-same, wrote-held, held-take, sets-laid, kept-out}
 use Rattle.display.specs.declared.answer.LengthAnswer.{LengthAnswer}
 use Rattle.display.specs.declared.answer.LengthAnswer.the-variants as answer
 use Rattle.display.specs.declared.number.Label.{Label}
@@ -79,6 +79,20 @@ word-held text w e = record { buffer = ap (λ (x : Label). x .bytes) e; count = 
 pub held-word : (text bytes : List ℕ) (n : ℕ) → Held 4 text bytes n → _≡_ {A = Label} (record { bytes = bytes; len = n }) (labelOf text)
 unfolding labelOf
 held-word text bytes n h = rw (h .buffer, h .count)
+
+-- ---- an item that fits a buffer
+module _ (item : List ℕ) {buf : List ℕ} {n r : ℕ} {buf′ : List ℕ}
+    (k : (r ≡ keptTo buf n true item) × (buf′ ≡ keptIn buf n true item)) where
+  pub put : (m : ℕ) → length item ≤ m → n + m ≤ length buf → Wrote buf n item buf′ r
+  put m short room = kept true item (omega arith) k
+
+  -- .. that is a word by value
+  pub put-word : (text : List ℕ) (w : Label) → w ≡ labelOf text → item ≡ take (w .len) (w .bytes) → length text ≤ 4 → n + 4 ≤ length buf
+      → Wrote buf n text buf′ r
+  put-word text w is e short room =
+      let same = e ∙ held-take 4 (word-held text w is) in
+      let l = ap length same in
+      wrote-as (put 4 (omega arith) room) same
 
 -- ---- a text handed out, or what was refused given back alone; `told` is what the refusal means
 

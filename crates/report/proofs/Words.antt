@@ -1,19 +1,14 @@
--- How long the lines of a listing are, and words written into a buffer. Assumes nothing.
-use mathlib.Core.Path.{_≡_, ap, _∙_}
+-- How long the lines of a listing are. Assumes nothing.
 use mathlib.Core.Bool.{Bool, true, false, cond}
 use mathlib.Core.List.{List, [], _∷_, _++_}
 use Prim.Native.Nat.{ℕ, _+_, _*_, _/_, _≤_}
 use native.Mathlib.Omega.{arith}
 use lib.Dec.{eqb}
-use lib.ListN.{length, take, length-append}
+use lib.ListN.{length, length-append}
 use Rattle.rules.specs.Tools.{gather}
-use Rattle.lent.specs.Lists.{Wrote, keptTo, keptIn}
-use Rattle.lent.proofs.Laws.{gather-length, held-take, wrote-as}
+use Rattle.lent.proofs.Laws.{gather-length}
 use Rattle.text.specs.Bytes.{newline, blank}
-use Rattle.display.specs.declared.number.Label.{Label}
-use Rattle.display.specs.Answers.{labelOf}
 use Rattle.display.specs.Texts.{numberText, pointText}
-use Rattle.display.proofs.Writing.{kept, word-held}
 use Rattle.display.proofs.Sizes.{number-short, point-short}
 use Rattle.report.specs.Listing.{doubleThree, doubleFour, overline, kindText, pointLine, countText, pairText, linesText}
 use Rattle.report.specs.Listing.{forbiddenWord, listText}
@@ -45,20 +40,6 @@ count-short word n h =
     let a = length-append word (numberText n) in
     let b = length-append (word ++ numberText n) (newline ∷ []) in
     omega (arith, number-short n)
-
--- ---- an item that fits
-module _ (item : List ℕ) {buf : List ℕ} {n r : ℕ} {buf′ : List ℕ}
-    (k : (r ≡ keptTo buf n true item) × (buf′ ≡ keptIn buf n true item)) where
-  pub put : (m : ℕ) → length item ≤ m → n + m ≤ length buf → Wrote buf n item buf′ r
-  put m short room = kept true item (omega arith) k
-
-  -- .. that is a word by value
-  pub put-word : (text : List ℕ) (w : Label) → w ≡ labelOf text → item ≡ take (w .len) (w .bytes) → length text ≤ 4 → n + 4 ≤ length buf
-      → Wrote buf n text buf′ r
-  put-word text w is e short room =
-      let same = e ∙ held-take 4 (word-held text w is) in
-      let l = ap length same in
-      wrote-as (put 4 (omega arith) room) same
 
 -- ---- the whole of a list of at most 225 pairs
 pub listing-fits : (list : List ℕ) → length list ≤ 450 → length (listText list) ≤ 3840

@@ -39,7 +39,7 @@ place-small x n e =
           (and-right (leb 1 n) (leb n 15) t),
     )
 
-item-small : (s : List ℕ) → itemRefusal s ≡ 0 → itemCode s < 225
+pub item-small : (s : List ℕ) → itemRefusal s ≡ 0 → itemCode s < 225
 unfolding itemRefusal itemCode
 item-small s e = let h = place-small (columnIn s) (rowIn s) e in omega (arith, h .0, h .1, h .2)
 

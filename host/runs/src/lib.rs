@@ -3,6 +3,7 @@
 pub mod depth;
 pub mod differential;
 pub mod feed;
+pub mod mending;
 pub mod reading;
 pub mod sgf;
 pub mod stored;

@@ -178,6 +178,15 @@ static void sgf_texts(void) {
     say("to_sgf", renju_to_sgf(moves, 3, out, sizeof out), 1);
 }
 
+static void mended(void) {
+    const char *list = "h8, i9,H08";
+    uint8_t lines[RENJU_MENDED];
+    uint32_t word = renju_mend((const uint8_t *)list, strlen(list), lines, sizeof lines);
+    say("mend", word, 0);
+    printf("%.*s", (int)renju_answer(word), (const char *)lines);
+    say("mend", renju_mend((const uint8_t *)list, strlen(list), lines, 9), 0);
+}
+
 int main(void) {
     texts();
     points();
@@ -189,5 +198,6 @@ int main(void) {
     counts();
     feeds();
     sgf_texts();
+    mended();
     return 0;
 }

@@ -4,10 +4,9 @@ use native.Mathlib.Omega.{arith}
 use borrow.Author.Needs.{needs}
 use Rattle.lent.proofs.Laws.{wrote-same}
 use Rattle.text.specs.Bytes.{newline}
-use Rattle.display.proofs.Writing.{then}
+use Rattle.display.proofs.Writing.{then, put}
 use Rattle.display.proofs.Sizes.{number-short}
 use Rattle.report.specs.Listing.{countText}
-use Rattle.report.proofs.Words.{put}
 use Rattle.report.proofs.lines.count_into.Statement.{statement}
 use Rattle.report.proofs.lines.count_into.Tie as tie
 

@@ -3,7 +3,7 @@ use native.Mathlib.Omega.{arith}
 use borrow.Author.Needs.{needs}
 use borrow.Author.Tests.{eq-eqb, ne-eqb}
 use Rattle.report.specs.Listing.{doubleThree, doubleFour, overline, kindText}
-use Rattle.report.proofs.Words.{put}
+use Rattle.display.proofs.Writing.{put}
 use Rattle.report.proofs.lines.kind_into.Statement.{statement}
 use Rattle.report.proofs.lines.kind_into.Tie as tie
 

@@ -4,10 +4,10 @@ use native.Mathlib.Omega.{arith}
 use borrow.Author.Needs.{needs}
 use Rattle.lent.proofs.Laws.{wrote-same}
 use Rattle.text.specs.Bytes.{newline, blank}
-use Rattle.display.proofs.Writing.{then}
+use Rattle.display.proofs.Writing.{then, put}
 use Rattle.display.proofs.Sizes.{point-short}
 use Rattle.report.specs.Listing.{pointLine}
-use Rattle.report.proofs.Words.{kind-short, put}
+use Rattle.report.proofs.Words.{kind-short}
 use Rattle.report.proofs.lines.line_into.Statement.{statement}
 use Rattle.report.proofs.lines.line_into.Tie as tie
 

@@ -2,7 +2,7 @@
 use native.Mathlib.Omega.{arith}
 use borrow.Author.Needs.{needs}
 use Rattle.display.proofs.Sizes.{number-short}
-use Rattle.report.proofs.Words.{put-word}
+use Rattle.display.proofs.Writing.{put-word}
 use Rattle.report.proofs.lines.number_into.Statement.{statement}
 use Rattle.report.proofs.lines.number_into.Tie as tie
 

@@ -1,7 +1,7 @@
 -- `report::lines::point_into` meets its contract: the point's word is kept. Assumes nothing.
 use borrow.Author.Needs.{needs}
 use Rattle.display.proofs.Sizes.{point-short}
-use Rattle.report.proofs.Words.{put-word}
+use Rattle.display.proofs.Writing.{put-word}
 use Rattle.report.proofs.lines.point_into.Statement.{statement}
 use Rattle.report.proofs.lines.point_into.Tie as tie
 
