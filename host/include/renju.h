@@ -41,6 +41,7 @@ extern "C" {
 #define RENJU_CELLS 225   /* the cells of a board; room for any list of points */
 #define RENJU_DIAGRAM 464 /* the plain diagram */
 #define RENJU_PRETTY 527  /* the numbered diagram */
+#define RENJU_STONES_TEXT 764 /* stones text has at most so many bytes */
 #define RENJU_CROSS 2     /* a forbidden point in a list: verdict, code */
 #define RENJU_CROSSES 225 /* a board has at most so many of them */
 #define RENJU_ROW 4       /* a row in a list: key, start, stones mask, eyes mask */
@@ -74,7 +75,8 @@ enum renju_refusals {
     RENJU_FOREIGN_GAME = 17, /* a move of another game */
     RENJU_NOT_NEXT = 18,     /* a move whose number is not next */
     RENJU_APART_LISTS = 19,  /* two lists of which neither begins the other */
-    RENJU_OUTSIDE_SUBSET = 20 /* an SGF text outside the subset that is read */
+    RENJU_OUTSIDE_SUBSET = 20, /* an SGF text outside the subset that is read */
+    RENJU_ONE_SIDED = 22       /* a side without stones, which stones text can't say */
 };
 
 /* What is on a cell; the last two are the colours. */
@@ -126,12 +128,22 @@ static inline unsigned renju_refusal(uint32_t word) { return (unsigned)(word >> 
 /* The answer in a word that has no refusal. */
 static inline unsigned renju_answer(uint32_t word) { return (unsigned)(word & 0xffff); }
 
-/* The board that a text says, written to `cells`: 225. A point is one letter A to O and one or two
- * digits, 1 to 15, nothing behind; a second slash is refused 3. Refusals 1, 2, of 3 to 7 the first
- * that the reading meets, 13. */
+/* The board that a text says, stones or moves, written to `cells`: 225. A point is one letter A to O
+ * and one or two digits, 1 to 15, nothing behind; a lone one is one move, Black's; a second slash is
+ * refused 3. Refusals 1, 2, of 3 and 4 the first that the reading meets, 13. */
 uint32_t renju_read(const uint8_t *text, size_t text_len, uint8_t *cells, size_t cells_len);
 
-/* The plain diagram, which reads back: 464. No 0 byte is put behind it. Refusals 9, 13. */
+/* The board of a saved diagram, written to `cells`: 225. Every text is taken for a diagram: o is
+ * black, x white, any other byte but space an empty cell. Refusals 1, 2, 5, 6, 7, 13. */
+uint32_t renju_read_diagram(const uint8_t *text, size_t text_len, uint8_t *cells, size_t cells_len);
+
+/* A saved diagram converted to stones text, which renju_read reads as the same board: its length.
+ * Black's points by ascending code, a slash, White's; no 0 byte behind. Refusals 1, 2, 5, 6, 7, 22
+ * for a side without stones, 13. */
+uint32_t renju_convert(const uint8_t *text, size_t text_len, uint8_t *out, size_t out_len);
+
+/* The plain diagram, which renju_read_diagram reads back: 464. No 0 byte is put behind it. Refusals
+ * 9, 13. */
 uint32_t renju_to_string(const uint8_t *cells, size_t cells_len, uint8_t *out, size_t out_len);
 
 /* The diagram with numbers and letters at its edges: 527, no 0 byte behind. Refusals 9, 13. */

@@ -2,7 +2,7 @@
 
 use crate::raw;
 use crate::refusal::{answer, given};
-use crate::{CELLS, Colour, DIAGRAM, PRETTY, Point, Refusal, View};
+use crate::{CELLS, Colour, DIAGRAM, PRETTY, Point, Refusal, STONES_TEXT, View};
 use std::fmt;
 use std::str::FromStr;
 
@@ -82,25 +82,70 @@ impl Cells {
     }
 
     /// The board that a text says: stones (`G8,I8/A1`, Black's, then
-    /// White's), moves in turn (`H8,I9`), or a diagram of 15 lines.
+    /// White's) or moves in turn (`H8,I9`). A lone point is one move, Black's.
     ///
     /// Refusals 1 and 2 are for bytes that can be no text, 3 and 4 for
-    /// points, 3 also for a second slash, 5 to 7 for diagrams.
+    /// points, 3 also for a second slash. A saved diagram is read by
+    /// [`Cells::from_diagram`].
     ///
     /// ```
-    /// use renju::{Cells, Refusal};
+    /// use renju::{Cells, Colour, Refusal};
     ///
     /// assert_eq!(Cells::read(b"H8,I9")?, Cells::read(b"H8/I9")?);
+    /// assert_eq!(Cells::read(b"H8")?.stones(Colour::Black)[..], ["H8".parse()?]);
     /// assert_eq!(Cells::read(b"H8,P1"), Err(Refusal::XPart));
     /// assert_eq!(Cells::read(b"H8/I9/J10"), Err(Refusal::XPart));
-    /// // With no comma and no slash it is a diagram, and has too few lines.
-    /// assert_eq!(Cells::read(b"H8"), Err(Refusal::LineCount));
+    /// assert_eq!(Cells::read(b""), Err(Refusal::XPart));
     /// # Ok::<(), renju::Refusal>(())
     /// ```
     pub fn read(text: &[u8]) -> Result<Self, Refusal> {
         let mut cells = Self::new();
         answer(raw::renju_read(text, &mut cells.bytes))?;
         Ok(cells)
+    }
+
+    /// The board of a saved diagram: 15 lines of 15 cells, from row 15 down, `o`
+    /// black, `x` white, any other byte empty, spaces dropped. Every text is
+    /// taken for one: a slash or a comma is an empty cell.
+    ///
+    /// Refusals 1 and 2 are for bytes that can be no text, 5 for a line of over
+    /// 15 cells, 6 for other than 15 lines, 7 for a line of under 15 cells.
+    ///
+    /// ```
+    /// use renju::{Cells, Refusal};
+    ///
+    /// let cells: Cells = "H8,I9".parse()?;
+    /// assert_eq!(Cells::from_diagram(cells.to_string().as_bytes())?, cells);
+    /// assert_eq!(Cells::from_diagram(b"H8,I9"), Err(Refusal::LineCount));
+    /// # Ok::<(), renju::Refusal>(())
+    /// ```
+    pub fn from_diagram(text: &[u8]) -> Result<Self, Refusal> {
+        let mut cells = Self::new();
+        answer(raw::renju_read_diagram(text, &mut cells.bytes))?;
+        Ok(cells)
+    }
+
+    /// The stones text, which [`Cells::read`] reads as the same board: Black's
+    /// points by ascending code, a slash, White's. Refusal 22 where a side has
+    /// no stones.
+    ///
+    /// ```
+    /// use renju::{Cells, Refusal};
+    ///
+    /// let cells: Cells = "I8,A1,H9,G8".parse()?;
+    /// assert_eq!(cells.to_stones()?, "H9,I8/A1,G8");
+    /// assert_eq!(cells.to_stones()?.parse::<Cells>()?, cells);
+    /// assert_eq!(Cells::new().to_stones(), Err(Refusal::OneSided));
+    /// # Ok::<(), renju::Refusal>(())
+    /// ```
+    pub fn to_stones(&self) -> Result<String, Refusal> {
+        // The plain diagram reads back, so its stones are those of the board.
+        let mut diagram = [0; DIAGRAM];
+        given(raw::renju_to_string(&self.bytes, &mut diagram));
+        let mut out = [0; STONES_TEXT];
+        let length = answer(raw::renju_convert(&diagram, &mut out))?;
+        let text = out.get(..usize::from(length)).unwrap_or_default();
+        Ok(ascii(text).to_owned())
     }
 
     /// The diagram with its rows numbered and its columns lettered, 527
@@ -226,7 +271,7 @@ impl fmt::Display for Counts {
     }
 }
 
-/// The text of a diagram. Its bytes are ASCII, so there is always one.
+/// A text that was written. Its bytes are ASCII, so there is always one.
 fn ascii(bytes: &[u8]) -> &str {
     std::str::from_utf8(bytes).unwrap_or_default()
 }
@@ -274,13 +319,14 @@ impl FromStr for Cells {
     }
 }
 
-/// The plain diagram, 464 bytes, which reads back as the same board.
+/// The plain diagram, 464 bytes, which [`Cells::from_diagram`] reads back as
+/// the same board.
 ///
 /// ```
 /// use renju::Cells;
 ///
 /// let cells: Cells = "H8,I9".parse()?;
-/// assert_eq!(cells.to_string().parse::<Cells>()?, cells);
+/// assert_eq!(Cells::from_diagram(cells.to_string().as_bytes())?, cells);
 /// # Ok::<(), renju::Refusal>(())
 /// ```
 impl fmt::Display for Cells {

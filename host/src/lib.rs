@@ -150,6 +150,20 @@ pub const DIAGRAM: usize = 464;
 /// ```
 pub const PRETTY: usize = 527;
 
+/// How many bytes stones text can have: that of a board full of stones, each point
+/// of it named once, with a comma or the slash between them.
+///
+/// ```
+/// use renju::Cells;
+///
+/// let mut bytes = [1; renju::CELLS];
+/// bytes[0] = 2;
+/// let full = Cells::from_bytes(&bytes)?;
+/// assert_eq!(full.to_stones()?.len(), renju::STONES_TEXT);
+/// # Ok::<(), renju::Refusal>(())
+/// ```
+pub const STONES_TEXT: usize = 764;
+
 /// How many rows of a kind a board can have: one for each window of five
 /// cells, on a board that is full of White's stones.
 ///
@@ -229,7 +243,7 @@ pub const MENDED: usize = 1152;
 /// ```
 /// use renju::{Cells, Refusal};
 ///
-/// assert_eq!(Cells::read(&[b' '; renju::TEXT]), Err(Refusal::LineCount));
+/// assert_eq!(Cells::read(&[b' '; renju::TEXT]), Err(Refusal::XPart));
 /// assert_eq!(Cells::read(&[b' '; renju::TEXT + 1]), Err(Refusal::TextLength));
 /// ```
 pub const TEXT: usize = 4096;

@@ -217,6 +217,14 @@ mod ffi {
             out: *mut u8,
             out_len: usize,
         ) -> u32;
+        pub fn renju_read_diagram(
+            text: *const u8,
+            text_len: usize,
+            cells: *mut u8,
+            cells_len: usize,
+        ) -> u32;
+        pub fn renju_convert(text: *const u8, text_len: usize, out: *mut u8, out_len: usize)
+        -> u32;
         pub fn renju_to_tagged(
             moves: *const u8,
             moves_len: usize,
@@ -270,18 +278,53 @@ pub use ffi::{renju_view_back, renju_view_then};
 // written where the slice is `&mut`, until the call returns; the functions keep no pointer and
 // touch no byte outside.
 
-/// The board that a text says: 225, its cells written. Refusals 1, 2, of 3 to
-/// 7 the first that the reading meets, 13.
+/// The board that a text says, stones or moves: 225, its cells written. A lone
+/// point is one move. Refusals 1, 2, of 3 and 4 the first that the reading meets,
+/// 13.
 ///
 /// ```
 /// # use renju::raw::*;
 /// let mut cells = [0; 225];
 /// assert_eq!(renju_read(b"H8,I9", &mut cells), 225);
 /// assert_eq!((cells[112], cells[128]), (1, 2));
+/// assert_eq!(renju_read(b"H8", &mut cells), 225);
+/// assert_eq!((cells[112], cells[128]), (1, 0));
 /// assert_eq!(renju_read(b"H8,P9", &mut cells), 3 << 16);
 /// ```
 pub fn renju_read(text: &[u8], cells: &mut [u8]) -> u32 {
     unsafe { ffi::renju_read(text.as_ptr(), text.len(), cells.as_mut_ptr(), cells.len()) }
+}
+
+/// The board of a saved diagram: 225, its cells written. Every text is taken for
+/// a diagram. Refusals 1, 2, 5, 6, 7, 13.
+///
+/// ```
+/// # use renju::raw::*;
+/// let mut cells = [0; 225];
+/// assert_eq!(renju_read_diagram(b"H8,I9", &mut cells), 6 << 16);
+/// let text = vec!["o.............x"; 15].join("\n");
+/// assert_eq!(renju_read_diagram(text.as_bytes(), &mut cells), 225);
+/// assert_eq!((cells[0], cells[112], cells[224]), (1, 0, 2));
+/// ```
+pub fn renju_read_diagram(text: &[u8], cells: &mut [u8]) -> u32 {
+    unsafe { ffi::renju_read_diagram(text.as_ptr(), text.len(), cells.as_mut_ptr(), cells.len()) }
+}
+
+/// A saved diagram converted to stones text: how many bytes, at most 764, the text
+/// written. Refusals 1, 2, 5, 6, 7, 22, 13.
+///
+/// ```
+/// # use renju::raw::*;
+/// let mut cells = [0; 225];
+/// renju_read(b"H8,I9,A1", &mut cells);
+/// let (mut diagram, mut out) = ([0; 464], [0; 764]);
+/// renju_to_string(&cells, &mut diagram);
+/// assert_eq!(renju_convert(&diagram, &mut out), 8);
+/// assert!(out.starts_with(b"A1,H8/I9"));
+/// assert_eq!(renju_convert(&diagram, &mut out[..7]), 13 << 16);
+/// ```
+pub fn renju_convert(text: &[u8], out: &mut [u8]) -> u32 {
+    unsafe { ffi::renju_convert(text.as_ptr(), text.len(), out.as_mut_ptr(), out.len()) }
 }
 
 /// The plain diagram: 464, its bytes written. Refusals 9, 13.

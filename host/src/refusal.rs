@@ -33,7 +33,8 @@ pub enum Refusal {
     /// 4: "Failed to parse y part.": behind a point's letter there is not just
     /// a number 1 to 15 of one or two digits.
     YPart = 4,
-    /// 5: "Wrong length.": a diagram line of over 15 cells.
+    /// 5: "Wrong length.": a diagram line of over 15 cells. This and the next two
+    /// are for saved diagrams alone.
     LineLength = 5,
     /// 6: "Wrong num of lines".
     LineCount = 6,
@@ -69,6 +70,8 @@ pub enum Refusal {
     ApartLists = 19,
     /// 20: an SGF text outside the subset that is read.
     OutsideSubset = 20,
+    /// 22: a side without stones, which stones text can't say.
+    OneSided = 22,
 }
 
 impl Refusal {
@@ -77,10 +80,10 @@ impl Refusal {
     /// ```
     /// use renju::Refusal;
     ///
-    /// assert_eq!(Refusal::ALL.len(), 20);
+    /// assert_eq!(Refusal::ALL.len(), 21);
     /// assert_eq!(Refusal::ALL[0].number(), 1);
     /// ```
-    pub const ALL: [Self; 20] = [
+    pub const ALL: [Self; 21] = [
         Self::TextLength,
         Self::TextByte,
         Self::XPart,
@@ -101,6 +104,7 @@ impl Refusal {
         Self::NotNext,
         Self::ApartLists,
         Self::OutsideSubset,
+        Self::OneSided,
     ];
 
     /// The documents' number.
@@ -142,6 +146,7 @@ impl Refusal {
             18 => Self::NotNext,
             19 => Self::ApartLists,
             20 => Self::OutsideSubset,
+            22 => Self::OneSided,
             _ => return None,
         })
     }
@@ -177,6 +182,7 @@ impl Refusal {
             Self::NotNext => "the move's number is not next, or there is no such move",
             Self::ApartLists => "neither list begins the other",
             Self::OutsideSubset => "the SGF text is outside the subset that is read",
+            Self::OneSided => "a side has no stones, which stones text can't say",
         }
     }
 }

@@ -83,10 +83,13 @@ fn bytes_in_and_out() {
 }
 
 #[test]
-fn three_forms_of_text() {
+fn two_forms_of_text() {
     let stones = cells("H8,J10/I9");
     assert_eq!(stones, cells("H8,I9,J10"));
-    assert_eq!(stones, cells(&stones.to_string()));
+    assert_eq!(stones, cells(&stones.to_stones().unwrap()));
+    // A lone point is one move, Black's.
+    assert_eq!(cells(" h08\n").stones(Colour::Black)[..], [point("H8")]);
+    assert_eq!(cells("H8").empty_points().len(), 224);
     assert_eq!(Cells::read(b"H8,J10/I9"), Ok(stones));
     // A second slash is refused, whatever stands behind it.
     for text in ["H8/I9/", "H8/I9/J10", "H8//"] {
@@ -102,16 +105,48 @@ fn diagrams() {
     for cells in boards(50, 2) {
         let plain = cells.to_string();
         assert_eq!(plain.len(), DIAGRAM);
-        assert_eq!(plain.parse(), Ok(cells));
+        assert_eq!(Cells::from_diagram(plain.as_bytes()), Ok(cells));
+        assert!(plain.parse::<Cells>().is_err());
         let pretty = cells.to_pretty_string();
         assert_eq!(pretty.len(), PRETTY);
-        assert_eq!(pretty.parse::<Cells>(), Err(Refusal::LineLength));
+        let numbered = Cells::from_diagram(pretty.as_bytes());
+        assert_eq!(numbered, Err(Refusal::LineLength));
         // Row 15 comes first; the numbered rows are the plain ones with a number.
         for (n, (row, numbered)) in plain.lines().zip(pretty.lines()).enumerate() {
             assert_eq!(format!("{:2}{row}", 15 - n), numbered);
         }
         assert_eq!(format!("{cells:?}"), format!("Cells(\n{plain}\n)"));
     }
+}
+
+/// Black's points and White's, each by ascending code; read, they are the board.
+#[test]
+fn stones_text() {
+    let mut sided = 0;
+    for cells in boards(50, 6) {
+        let names = |colour| {
+            let names: Vec<String> = cells.stones(colour).iter().map(Point::to_string).collect();
+            names.join(",")
+        };
+        let [black, white] = Colour::ALL.map(names);
+        if black.is_empty() || white.is_empty() {
+            assert_eq!(cells.to_stones(), Err(Refusal::OneSided));
+            continue;
+        }
+        let text = cells.to_stones().unwrap();
+        assert_eq!(text, format!("{black}/{white}"));
+        assert_eq!(text.parse(), Ok(cells));
+        sided += 1;
+    }
+    assert!(sided > 10, "{sided}");
+    assert_eq!(cells("H8").to_stones(), Err(Refusal::OneSided));
+    assert_eq!(cells("H8,H8").to_stones(), Err(Refusal::OneSided));
+    assert_eq!(cells("O15,A1").to_stones().unwrap(), "O15/A1");
+    // A slash and a comma in a diagram are empty cells.
+    let mut lines = vec!["..............."; 15];
+    (lines[0], lines[14]) = ("/,.............", "x,..../......oo");
+    let saved = Cells::from_diagram(lines.join("\n").as_bytes()).unwrap();
+    assert_eq!(saved.to_stones().unwrap(), "N1,O1/A1");
 }
 
 /// Any sequence of put and remove answers as a plain map.

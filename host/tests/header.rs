@@ -2,9 +2,8 @@
 //! Rust.
 
 use renju::{CELLS, Colour, DIAGRAM, Kind, MENDED, MOVES, PRETTY, RECORD, REPORT, ROWS, ROWS_ON};
-use renju::{CELLS, Colour, DIAGRAM, Kind, MOVES, PRETTY, RECORD, REPORT, ROWS};
-use renju::{ROWS_ON, Reason, Refusal, SGF, TEXT, Verdict, View};
 use renju::{Reason, Refusal, TEXT, Verdict, View};
+use renju::{SGF, STONES_TEXT};
 use std::collections::BTreeMap;
 use std::fs;
 use std::path::Path;
@@ -125,7 +124,7 @@ fn parameter_in_c(parameter: &str) -> String {
 #[test]
 fn same_functions() {
     let header = header_prototypes();
-    assert_eq!(header.len(), 38);
+    assert_eq!(header.len(), 40);
     assert_eq!(header, raw_prototypes());
     assert_eq!(header, source_prototypes());
 }
@@ -180,6 +179,7 @@ fn same_numbers() {
             ("RENJU_CELLS", CELLS),
             ("RENJU_DIAGRAM", DIAGRAM),
             ("RENJU_PRETTY", PRETTY),
+            ("RENJU_STONES_TEXT", STONES_TEXT),
             ("RENJU_CROSS", 2),
             ("RENJU_CROSSES", CELLS),
             ("RENJU_ROW", 4),

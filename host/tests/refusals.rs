@@ -7,7 +7,7 @@ use std::collections::HashSet;
 #[test]
 fn numbers_and_meanings() {
     let mut meanings = HashSet::new();
-    for (refusal, number) in Refusal::ALL.into_iter().zip(1..) {
+    for (refusal, number) in Refusal::ALL.into_iter().zip((1..=20).chain([22])) {
         assert_eq!(refusal.number(), number);
         assert_eq!(Refusal::from_number(number), Some(refusal));
         assert_eq!(answer(u32::from(number) << 16), Err(refusal));
@@ -16,7 +16,7 @@ fn numbers_and_meanings() {
         assert_eq!(said, format!("refused {number}: {meaning}"));
         assert!(meanings.insert(meaning), "{meaning}, twice");
     }
-    for number in (0..=0).chain(21..=u8::MAX) {
+    for number in (0..=0).chain(21..=21).chain(23..=u8::MAX) {
         assert_eq!(Refusal::from_number(number), None);
     }
     assert_eq!(answer(65535), Ok(65535));
@@ -33,16 +33,35 @@ fn texts() {
         ("H8/é1", Refusal::TextByte),
         ("P8,A1", Refusal::XPart),
         ("A1/B1/", Refusal::XPart),
+        ("", Refusal::XPart),
+        ("P8", Refusal::XPart),
+        (&row, Refusal::XPart),
         ("H16,A1", Refusal::YPart),
         ("H123,A1", Refusal::YPart),
-        (&wide, Refusal::LineLength),
-        (&row, Refusal::LineCount),
-        (&short, Refusal::LineSize),
+        ("H16", Refusal::YPart),
+        ("H8 I9", Refusal::YPart),
     ] {
         assert_eq!(Cells::read(text.as_bytes()), Err(refusal), "{text:?}");
         assert_eq!(text.parse::<Cells>(), Err(refusal), "{text:?}");
     }
     assert_eq!(Cells::read(&[128]), Err(Refusal::TextByte));
+    for (text, refusal) in [
+        (long.as_str(), Refusal::TextLength),
+        ("é", Refusal::TextByte),
+        (&wide, Refusal::LineLength),
+        (&row, Refusal::LineCount),
+        ("H8", Refusal::LineCount),
+        ("H8,I9/J10", Refusal::LineCount),
+        ("", Refusal::LineCount),
+        (&short, Refusal::LineSize),
+    ] {
+        let read = Cells::from_diagram(text.as_bytes());
+        assert_eq!(read, Err(refusal), "{text:?}");
+        let mut out = [7; 764];
+        let word = renju_convert(text.as_bytes(), &mut out);
+        assert_eq!(answer(word), Err(refusal), "{text:?}");
+        assert_eq!(out, [7; 764]);
+    }
 }
 
 #[test]
@@ -201,6 +220,13 @@ fn first_refusal_of_several() {
     refused(9, |out| renju_turn(&bad, 8, out));
     refused(12, |out| renju_turn(&good, 8, out));
     refused(3, |out| renju_read(b"P8,H16", out));
+    refused(6, |out| renju_read_diagram(b"P8,H16", out));
+    let black = vec!["o.............."; 15].join("\n");
+    refused(22, |out| renju_convert(black.as_bytes(), out));
+    let white = vec!["..............x"; 15].join("\n");
+    refused(22, |out| renju_convert(white.as_bytes(), out));
+    let empty = vec!["..............."; 15].join("\n");
+    refused(22, |out| renju_convert(empty.as_bytes(), out));
     refused(14, |out| renju_game(&[225; 226], out));
     refused(8, |out| renju_game(&[112, 112, 225], out));
     assert_eq!(renju_turn_point(225, 8), 8 << 16);
@@ -255,6 +281,7 @@ fn cells_kept_by_refused_changes() {
     kept(9, &good[..224], &|cells| renju_put(cells, 112, 1));
     kept(4, &good, &|cells| renju_read(b"H8,H16", cells));
     kept(13, &good[..224], &|cells| renju_read(b"H8,I9", cells));
+    kept(6, &good, &|cells| renju_read_diagram(b"H8,I9", cells));
 }
 
 #[test]

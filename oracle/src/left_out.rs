@@ -1,12 +1,16 @@
 //! What is left out of every comparison with the original: the texts that
-//! request 5 of document 02 speaks of, and the verdicts and lists that meet an eye
-//! that completes a five, by request 6. Both are written from the requests and
-//! look at no answer of the original, so some of what is left out is answered as before.
+//! requests 5 and 13 of document 02 speak of, and the verdicts and lists that meet
+//! an eye that completes a five, by request 6. All are written from the requests
+//! and look at no answer of the original, so some of what is left out is answered
+//! as before.
 //!
 //! "The point reader now takes exactly one letter and one or two digits after
 //! trimming: no plus sign and nothing behind. [..] A second "/", ignored until
 //! now, is refused too. The differences from the Rust are recorded and the
 //! oracle runs leave those texts out."
+//!
+//! "on text with no "/" and no "," the oracle runs compare the converter's reader
+//! and leave the live entry out."
 //!
 //! "Where the Rust differs, an example goes into docs/DIFFERENCES.md, and
 //! differential runs compare only verdicts and lists that never meet such an
@@ -18,8 +22,8 @@ use crate::naive_text::{self, trimmed};
 use crate::original::{self, Cells};
 use std::fmt::Debug;
 
-/// What a text of bytes below 128 is to read as: by the original, and where it
-/// is left out by the naive reading.
+/// What a text of bytes below 128 is to read as at the live entry: by the
+/// original, and where it is left out by the naive reading.
 pub fn read(bytes: &[u8]) -> Result<Cells, u8> {
     if text(bytes) {
         return naive_text::read(bytes);
@@ -27,9 +31,27 @@ pub fn read(bytes: &[u8]) -> Result<Cells, u8> {
     original::read(std::str::from_utf8(bytes).expect("bytes below 128 are text"))
 }
 
-/// A text of a board: stones with a second slash, or stones or moves with such
-/// a point. A diagram has no points.
+/// What such a text is to read as by the converter's reader: by the original
+/// where that reads it as a diagram, else by the naive reading.
+pub fn read_diagram(bytes: &[u8]) -> Result<Cells, u8> {
+    if lone(bytes) {
+        return original::read(std::str::from_utf8(bytes).expect("bytes below 128 are text"));
+    }
+    naive_text::read_diagram(bytes)
+}
+
+/// A text that the live entry is not held to the original on.
 pub fn text(text: &[u8]) -> bool {
+    lone(text) || typed(text)
+}
+
+/// Request 13: a text with no slash and no comma, a diagram to the original.
+pub fn lone(text: &[u8]) -> bool {
+    !text.contains(&b'/') && !text.contains(&b',')
+}
+
+/// Request 5: stones with a second slash, or stones or moves with such a point.
+pub fn typed(text: &[u8]) -> bool {
     match text.iter().filter(|&&b| b == b'/').count() {
         0 => text.contains(&b',') && list(text),
         1 => text.split(|&b| b == b'/').any(list),

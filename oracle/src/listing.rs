@@ -4,7 +4,7 @@
 use crate::boards::{self, Dice};
 use crate::left_out;
 use crate::naive;
-use crate::naive_text::write_diagram;
+use crate::naive_text::{self, write_diagram};
 use crate::original;
 use crate::texts;
 use std::fmt::Write;
@@ -48,13 +48,16 @@ fn listed(list: &[(u8, u8)]) -> String {
     out
 }
 
-/// A text to list: diagrams of every sort of board, lists, and both damaged;
-/// now and then a byte of 128 or more, or too many bytes.
+/// A text to list: the stones of every sort of board (a diagram where a side has
+/// none), lists, and both damaged; now and then a byte of 128 or more, or too many
+/// bytes.
 pub fn text(dice: &mut Dice) -> Vec<u8> {
     let mut bytes = match dice.below(4) {
         0 | 1 => {
             let sort = dice.pick(&boards::SORTS);
-            write_diagram(&boards::of_sort(sort, dice)).into_bytes()
+            let diagram = write_diagram(&boards::of_sort(sort, dice));
+            let stones = naive_text::convert(diagram.as_bytes());
+            stones.unwrap_or(diagram).into_bytes()
         }
         2 => texts::good(dice).into_bytes(),
         _ => {

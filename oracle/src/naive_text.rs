@@ -1,8 +1,9 @@
-//! A naive reading of section 7 of document 01, with request 5 of document
-//! 02: the three text forms.
+//! A naive reading of section 7 of document 01, with requests 5 and 13 of
+//! document 02: stones and moves, which the live entry takes, and diagrams,
+//! which the converter takes.
 //!
 //! Bytes in, cell bytes or a refusal number out; written from the documents.
-//! Where request 5 answers otherwise than the original: `left_out`.
+//! Where these requests answer otherwise than the original: `left_out`.
 
 use crate::naive::{BLACK, Cells, EMPTY, POINTS, SIDE, WHITE, code};
 
@@ -20,22 +21,54 @@ pub(crate) fn trimmed(text: &[u8]) -> &[u8] {
     &text[first..=last]
 }
 
-/// "text over 4,096 bytes" 1, "a text byte of 128 or more" 2. "Text with "/"
-/// is stones; else with "," is moves; else a diagram."
-pub fn read(text: &[u8]) -> Result<Cells, u8> {
+/// "text over 4,096 bytes" 1, "a text byte of 128 or more" 2.
+fn refused_as_text(text: &[u8]) -> Result<(), u8> {
     if text.len() > 4096 {
         return Err(1);
     }
     if text.iter().any(|&b| b >= 128) {
         return Err(2);
     }
+    Ok(())
+}
+
+/// The live entry. "Text with "/" is stones; else [..] moves", and "text with
+/// no "/" and no "," is now one move".
+pub fn read(text: &[u8]) -> Result<Cells, u8> {
+    refused_as_text(text)?;
     if text.contains(&b'/') {
         stones(trimmed(text))
-    } else if text.contains(&b',') {
-        moves(trimmed(text))
     } else {
-        diagram(trimmed(text))
+        moves(trimmed(text))
     }
+}
+
+/// The converter's reader: "reads them by document 01's diagram rules", every
+/// text.
+pub fn read_diagram(text: &[u8]) -> Result<Cells, u8> {
+    refused_as_text(text)?;
+    diagram(trimmed(text))
+}
+
+/// The converter: "writes stones text, black then white, each by ascending
+/// code. A side without stones can't be written so." 22.
+pub fn convert(text: &[u8]) -> Result<String, u8> {
+    write_stones(&read_diagram(text)?)
+}
+
+fn write_stones(cells: &Cells) -> Result<String, u8> {
+    let side = |colour: u8| {
+        let stones = (0..POINTS).filter(|&p| cells[p] == colour);
+        let names: Vec<String> = stones.map(point_name).collect();
+        (!names.is_empty()).then(|| names.join(",")).ok_or(22)
+    };
+    Ok(side(BLACK)? + "/" + &side(WHITE)?)
+}
+
+/// "A1 is 0, H8 is 112, O15 is 224."
+fn point_name(p: usize) -> String {
+    let letter = char::from(b'A' + (p / SIDE) as u8);
+    format!("{letter}{}", p % SIDE + 1)
 }
 
 /// "A point: trimmed, a letter A to O or a to o", then "one or two digits

@@ -200,7 +200,8 @@ fn puts_and_removes_are_a_map() {
     }
 }
 
-/// All texts but those that request 5 speaks of.
+/// All texts but those that request 5 speaks of; of those with no slash and no
+/// comma the converter's reader.
 #[test]
 fn texts_agree() {
     let mut dice = Dice::new(14);
@@ -211,19 +212,34 @@ fn texts_agree() {
         let good = texts::good(&mut dice);
         all.push(texts::mutated(&mut dice, &good));
     }
-    let (mut refused, mut left_out, mut otherwise) = ([0; 8], 0, 0);
+    let (mut refused, mut typed, mut lone) = ([0; 8], [0, 0], [0, 0]);
     for text in &all {
-        let (naive, original) = (naive_text::read(text.as_bytes()), original::read(text));
-        if left_out::text(text.as_bytes()) {
-            left_out += 1;
-            otherwise += usize::from(naive != original);
+        let bytes = text.as_bytes();
+        let (naive, original) = (naive_text::read(bytes), original::read(text));
+        let other = usize::from(naive != original);
+        if left_out::typed(bytes) {
+            typed = [typed[0] + 1, typed[1] + other];
             continue;
         }
-        assert_eq!(naive, original, "{text:?}");
-        refused[naive.err().unwrap_or(0) as usize] += 1;
+        let same = if left_out::lone(bytes) {
+            lone = [lone[0] + 1, lone[1] + other];
+            naive_text::read_diagram(bytes)
+        } else {
+            naive
+        };
+        assert_eq!(same, original, "{text:?}");
+        refused[original.err().unwrap_or(0) as usize] += 1;
     }
-    println!("texts {}, by refusal {refused:?}", all.len() - left_out);
-    println!("left out {left_out}, of these {otherwise} answered otherwise");
+    println!("texts {}, by refusal {refused:?}", all.len() - typed[0]);
+    println!(
+        "left out by request 5 {}, of these {} answered otherwise",
+        typed[0], typed[1]
+    );
+    println!(
+        "the live entry left out by request 13 {}, of these {} answered otherwise",
+        lone[0], lone[1]
+    );
     assert!(refused[0] > 1_000 && refused[3..].iter().all(|&n| n > 10));
-    assert!(left_out < all.len() / 4 && otherwise > left_out / 4);
+    assert!(typed[0] < all.len() / 4 && typed[1] > typed[0] / 4);
+    assert!(lone[0] > 1_000 && lone[1] == lone[0], "{lone:?}");
 }

@@ -1,5 +1,5 @@
 //! Section 7's examples, read by the original and by the naive reading; those
-//! of request 5, which the two read differently, with both answers.
+//! of requests 5 and 13, which the two read differently, with both answers.
 
 use oracle::boards::{self, Dice, SORTS};
 use oracle::naive::{BLACK, Cells, EMPTY, POINTS, WHITE};
@@ -9,6 +9,18 @@ use oracle::{left_out, naive_text, original};
 fn read(text: &str) -> Result<Cells, u8> {
     let original = original::read(text);
     assert_eq!(naive_text::read(text.as_bytes()), original, "{text:?}");
+    original
+}
+
+/// What both say of a diagram, the naive reading as the converter's reader.
+fn read_saved(text: &str) -> Result<Cells, u8> {
+    assert!(left_out::lone(text.as_bytes()), "{text:?}");
+    let original = original::read(text);
+    assert_eq!(
+        naive_text::read_diagram(text.as_bytes()),
+        original,
+        "{text:?}"
+    );
     original
 }
 
@@ -26,7 +38,7 @@ fn board(blacks: &[usize], whites: &[usize]) -> Cells {
     cells
 }
 
-/// The point is put in a list of moves: alone it would be a diagram.
+/// The point is put in a list of moves: alone it is a diagram to the original.
 #[test]
 fn points_that_read() {
     for (text, code) in [("H08", 112), ("h8", 112), (" H15\t", 119), ("O15", 224)] {
@@ -87,12 +99,72 @@ fn points_refused() {
 
 #[test]
 fn lists() {
-    assert_eq!(read("H8"), Err(6));
     assert_eq!(read("A1,B1,A2"), Ok(board(&[0, 1], &[15])));
     assert_eq!(read("A1,B1,C1,A1"), Ok(board(&[30], &[15, 0])));
     assert_eq!(read("A1/A1"), Ok(board(&[], &[0])));
     for text in ["/", "A1/", "/A1", "A1,", ",A1"] {
         assert_eq!(read(text), Err(3), "{text}");
+    }
+}
+
+/// docs/DIFFERENCES.md: "text with no "/" and no "," is now one move".
+#[test]
+fn lone_points() {
+    for (text, live) in [
+        ("H8", Ok(board(&[112], &[]))),
+        (" h08\n", Ok(board(&[112], &[]))),
+        ("O15", Ok(board(&[224], &[]))),
+        ("", Err(3)),
+        (" \n", Err(3)),
+        ("P8", Err(3)),
+        ("8", Err(3)),
+        ("H", Err(4)),
+        ("H16", Err(4)),
+        ("H8 I9", Err(4)),
+        ("H8\nI9", Err(4)),
+        ("H123", Err(4)),
+    ] {
+        assert_eq!(read_apart(text), [Err(6), live], "{text:?}");
+    }
+    assert_eq!(read_apart(&"o".repeat(16)), [Err(5), Err(4)]);
+    // A diagram starts with no column; or with o, which is one.
+    for (cell, value, refusal) in [('.', EMPTY, 3), ('x', WHITE, 3), ('o', BLACK, 4)] {
+        let diagram = vec![cell.to_string().repeat(15); 15].join("\n");
+        assert_eq!(read_apart(&diagram), [Ok([value; POINTS]), Err(refusal)]);
+    }
+}
+
+/// The converter reads every text as a diagram and writes its stones; a side
+/// without stones is refused after 7.
+#[test]
+fn converted() {
+    let convert = |text: &str| naive_text::convert(text.as_bytes());
+    let empty = ".".repeat(15);
+    let of = |first: &str, last: &str| {
+        let mut lines = vec![empty.as_str(); 15];
+        (lines[0], lines[14]) = (first, last);
+        lines.join("\n")
+    };
+    let text = of("o............/x", "xo,..........oo");
+    assert_eq!(convert(&text), Ok("A15,B1,N1,O1/A1,O15".into()));
+    assert_eq!(convert(&of(&empty, "o..............")), Err(22));
+    assert_eq!(convert(&of(&empty, "x..............")), Err(22));
+    assert_eq!(convert(&of(&empty, "")), Err(6));
+    assert_eq!(convert(&of("", "o.............")), Err(6));
+    assert_eq!(convert(&of("................", "o..............")), Err(5));
+    assert_eq!(convert(&of("o.............", &empty)), Err(7));
+    for text in ["H8", "H8,I9", "H8/I9", ""] {
+        assert_eq!(convert(text), Err(6), "{text:?}");
+    }
+    // What it writes reads as the board.
+    let mut dice = Dice::new(22);
+    for sort in SORTS {
+        let cells = boards::of_sort(sort, &mut dice);
+        let stones = convert(&naive_text::write_diagram(&cells));
+        match [BLACK, WHITE].map(|colour| cells.contains(&colour)) {
+            [true, true] => assert_eq!(read(&stones.expect("both sides")), Ok(cells)),
+            _ => assert_eq!(stones, Err(22)),
+        }
     }
 }
 
@@ -105,10 +177,10 @@ fn diagrams() {
         let plain = board.to_string();
         assert_eq!(plain.len(), 464);
         assert_eq!(plain, naive_text::write_diagram(&cells));
-        assert_eq!(read(&plain), Ok(cells));
+        assert_eq!(read_saved(&plain), Ok(cells));
         let numbered = board.to_pretty_string();
         assert_eq!(numbered.len(), 527);
-        assert_eq!(read(&numbered), Err(5));
+        assert_eq!(read_saved(&numbered), Err(5));
     }
 }
 
@@ -121,12 +193,12 @@ fn diagram_refusals_in_order() {
         all[lines / 2] = other;
         all.join("\n")
     };
-    assert_eq!(read(&of(15, &good)), Ok([EMPTY; POINTS]));
-    assert_eq!(read(&of(15, &long)), Err(5));
-    assert_eq!(read(&of(14, &long)), Err(5));
-    assert_eq!(read(&of(14, &good)), Err(6));
-    assert_eq!(read(&of(16, &short)), Err(6));
-    assert_eq!(read(&of(15, &short)), Err(7));
+    assert_eq!(read_saved(&of(15, &good)), Ok([EMPTY; POINTS]));
+    assert_eq!(read_saved(&of(15, &long)), Err(5));
+    assert_eq!(read_saved(&of(14, &long)), Err(5));
+    assert_eq!(read_saved(&of(14, &good)), Err(6));
+    assert_eq!(read_saved(&of(16, &short)), Err(6));
+    assert_eq!(read_saved(&of(15, &short)), Err(7));
 }
 
 /// Each byte below 128 in every place of a point, and as cell and line end of
@@ -136,9 +208,14 @@ fn diagram_refusals_in_order() {
 #[test]
 fn every_byte_in_every_place() {
     let mut left_out = Vec::new();
-    let mut both = |text: &str| match left_out::text(text.as_bytes()) {
-        true => left_out.push(text.to_owned()),
-        false => drop(read(text)),
+    let mut both = |text: &str| {
+        if left_out::lone(text.as_bytes()) {
+            let _ = read_saved(text);
+        } else if left_out::typed(text.as_bytes()) {
+            left_out.push(text.to_owned());
+        } else {
+            let _ = read(text);
+        }
     };
     for byte in (0..128u8).map(char::from) {
         for text in [

@@ -17,13 +17,13 @@ ghost use Rattle.lent.specs.Lists.{Wrote, Held};
 ghost use Rattle.cells.specs.Cells.{valueList};
 
 // At most 225 codes, with how many there are.
-pub(crate) struct Codes {
-    pub(crate) bytes: [u8; 225],
-    pub(crate) len: usize,
+pub struct Codes {
+    pub bytes: [u8; 225],
+    pub len: usize,
 }
 
-// The points whose cell has this value, ascending.
-pub(crate) fn points_with(cells: &[u8], value: u8) -> Codes
+// The points whose cell has this value, ascending, of any bytes: past their end a cell has the value 0.
+pub fn points_with(cells: &[u8], value: u8) -> Codes
     ensures { λ r. ⌜ Held 225 (valueList (now (cells .entry)) value) (r .bytes) (r .len) ⌝ }
 {
     let mut bytes = [0u8; 225];

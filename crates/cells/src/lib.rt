@@ -15,6 +15,8 @@ pub use build::turned_cells;
 pub use change::put_of;
 pub use change::remove_of;
 pub use change::value_at;
+pub use codes::Codes;
+pub use codes::points_with;
 pub use front::empty_points_of;
 pub use front::hand_out;
 pub use front::neighbors_of;

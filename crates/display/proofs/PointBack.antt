@@ -1,7 +1,7 @@
 -- Points that are written read back: a point by one computed test of all 225, and a list of them. Assumes nothing.
 use mathlib.Core.Path.{_≡_, refl, ap, ap₂, _∙_}
 use mathlib.Core.Bool.{Bool, false, not, _&&_}
-use mathlib.Core.List.{List, [], _∷_, _++_, append-nil}
+use mathlib.Core.List.{List, [], _∷_, _++_, append-nil, append-assoc}
 use Prim.Native.Nat.{ℕ, zero, suc, _+_, _/_, _%_, _<_, _≤_}
 use native.Mathlib.Nat.{le-of-suc-le-suc, not-suc-le-zero}
 use native.Mathlib.Omega.{arith}
@@ -155,6 +155,20 @@ list-parts c (d ∷ codes) h =
 pub list-trim : (c : ℕ) (codes : List ℕ) → Points (c ∷ codes) → trim (pointsText (c ∷ codes)) ≡ pointsText (c ∷ codes)
 unfolding trim
 list-trim c codes h = rw (shape c codes, start-kept c (behind codes) (h .0), end-kept c codes h)
+
+-- .. also where another text stands behind it, or before it
+pub list-start : (c : ℕ) (codes t : List ℕ) → Points (c ∷ codes) → trimStart (pointsText (c ∷ codes) ++ t) ≡ pointsText (c ∷ codes) ++ t
+list-start c codes t h = rw (shape c codes, append-assoc (pointText c) (behind codes) t) (start-kept c (behind codes ++ t) (h .0))
+
+end-behind : (s t : List ℕ) → 0 < length t → trimEnd t ≡ t → trimEnd (s ++ t) ≡ s ++ t
+end-behind s [] l e = absurd (not-suc-le-zero l)
+end-behind s (b ∷ t) l e = end-append s b t e
+
+pub list-some : (c : ℕ) (codes : List ℕ) → Points (c ∷ codes) → 0 < length (pointsText (c ∷ codes))
+list-some c codes h = rw (shape c codes) (omega (arith, length-append (pointText c) (behind codes), point-some c (h .0)))
+
+pub list-end : (s : List ℕ) (c : ℕ) (codes : List ℕ) → Points (c ∷ codes) → trimEnd (s ++ pointsText (c ∷ codes)) ≡ s ++ pointsText (c ∷ codes)
+list-end s c codes h = end-behind s (pointsText (c ∷ codes)) (list-some c codes h) (rw (shape c codes) (end-kept c codes h))
 
 list-shape : (c : ℕ) (codes : List ℕ) → Points (c ∷ codes) → parts comma (trim (pointsText (c ∷ codes))) ≡ texts (c ∷ codes)
 unfolding texts

@@ -1,16 +1,18 @@
 -- Cells that are written as a plain diagram read back as the same cells, and a board as the same board. Assumes nothing.
 use mathlib.Core.Path.{_≡_, refl, ap, ap₂, sym, _∙_}
-use mathlib.Core.Bool.{Bool, true, false, cond}
+use mathlib.Core.Bool.{Bool, true, false, _&&_, cond}
 use mathlib.Core.List.{List, [], _∷_, _++_, map}
 use Prim.Native.Nat.{ℕ, zero, suc, _-_, _≤_, _<_}
 use native.Mathlib.Nat.{not-suc-le-zero}
 use native.Mathlib.Omega.{arith}
 use lib.Dec.{eqb, leb, ltb}
 use lib.ListN.{length, getD, take, drop, List·getD-map, length-map}
+use borrow.Author.Tests.{eq-eqb}
 use Rattle.rules.specs.Refusals.{first, unless}
 use Rattle.rules.specs.Tools.{gather, tab, only, allBelow}
 use Rattle.rules.specs.Point.{xOf, yOf, codeOf}
 use Rattle.rules.proofs.Lists.{is-tab, tab-cong}
+use Rattle.rules.proofs.Logic.{and-flip, no-true}
 use Rattle.cells.specs.Cells.{Cells}
 use Rattle.cells.specs.Answers.{cellsAnswer}
 use Rattle.grid.proofs.Lines.{cells-cellsOf}
@@ -20,11 +22,13 @@ use Rattle.board.specs.declared.board.Board.{Board}
 use Rattle.board.specs.declared.answer.BoardAnswer.{BoardAnswer}
 use Rattle.board.proofs.Given.{whole-board}
 use Rattle.text.specs.Bytes.{newline, blank, comma, dot, slash, smallO, smallX, space, trim, trimStart, trimEnd, dense, has, parts}
-use Rattle.text.specs.Bytes.{ontoFirst}
+use Rattle.text.specs.Bytes.{ontoFirst, textRefusal}
 use Rattle.text.specs.Reading.{countRefusal, sizeAt, diagramRefusal, diagramCells, letterCell, diagramTextRefusal, diagramTextCells}
-use Rattle.text.specs.Reading.{readRefusal, readCells}
+use Rattle.text.specs.Reading.{readRefusal}
 use Rattle.text.proofs.Places.{end-more}
-use Rattle.text.proofs.Said.{as-diagram-refusal, as-diagram-cells}
+use Rattle.text.specs.Points.{pointTextRefusal}
+use Rattle.text.proofs.Named.{namesPoint, point-named}
+use Rattle.text.proofs.Lone.{lone-refusal}
 use Rattle.display.specs.Texts.{letterOr, lineText, rowText, plainRow, diagramOf}
 use Rattle.display.proofs.Sizes.{diagram-length}
 use Rattle.display.proofs.Shown.{All, all-append, all-gather, all-has, all-text, letter-has, row-has, parts-whole, parts-line}
@@ -184,7 +188,7 @@ letter-back (suc (suc zero)) h = refl
 letter-back (suc (suc (suc v))) h = omega arith
 
 module _ (grid : List ℕ) where
-  diagram-pass : diagramTextRefusal (diagramOf grid) ≡ 0
+  pub diagram-pass : diagramTextRefusal (diagramOf grid) ≡ 0
   unfolding diagramTextRefusal first
   diagram-pass =
       rw (all-text (diagramOf grid)
@@ -192,7 +196,7 @@ module _ (grid : List ℕ) where
       (omega (arith, diagram-length grid)))
       (lines-pass grid (parts newline (trim (diagramOf grid))) (cut-lines grid))
 
-  diagram-said : Cells grid → diagramTextCells (diagramOf grid) ≡ grid
+  pub diagram-said : Cells grid → diagramTextCells (diagramOf grid) ≡ grid
   unfolding diagramTextCells
   diagram-said ok =
       lines-said grid (parts newline (trim (diagramOf grid))) (cut-lines grid)
@@ -205,17 +209,22 @@ module _ (grid : List ℕ) where
   unfolding cellsAnswer
   cells-back ok = rw (diagram-pass, diagram-said ok)
 
-  -- .. and the live entry, which takes diagrams too, reads it so: it has no slash and no comma
+  -- .. and the live entry, which takes no diagram, refuses it, whatever the cells: it is no point
   diagram-none : (d : ℕ) → eqb newline d ≡ false → eqb blank d ≡ false → eqb smallO d ≡ false → eqb smallX d ≡ false
       → eqb dot d ≡ false → has d (diagramOf grid) ≡ false
   diagram-none d n s o x e = all-has d (diagramOf grid) (diagram-has (λ b. eqb b d ≡ false) n s o x e grid)
 
-  pub live-same : (readRefusal (diagramOf grid) ≡ diagramTextRefusal (diagramOf grid))
-      × (readCells (diagramOf grid) ≡ diagramTextCells (diagramOf grid))
-  live-same =
-      let p = diagram-none slash refl refl refl refl refl in
-      let q = diagram-none comma refl refl refl refl refl in
-      (as-diagram-refusal (diagramOf grid) p q, as-diagram-cells (diagramOf grid) p q)
+  no-point : namesPoint (rest grid) ≡ false
+  unfolding namesPoint rest diagramOf plainRow rowText lineText gather
+  no-point = refl
+
+  pub live-refuses : readRefusal (diagramOf grid) ≡ 0 → ⊥
+  live-refuses z =
+      let s = diagramOf grid in
+      let lone = lone-refusal s (diagram-none slash refl refl refl refl refl) (diagram-none comma refl refl refl refl refl) in
+      let named = point-named s ∙ ap (λ (t : List ℕ). eqb (textRefusal s) 0 && namesPoint t) (diagram-cut grid)
+      ∙ ap (λ (b : Bool). eqb (textRefusal s) 0 && b) no-point ∙ and-flip (eqb (textRefusal s) 0) false in
+      no-true (sym named ∙ eq-eqb (pointTextRefusal s) 0 (sym lone ∙ z))
 
 module _ (b : Board) (h : boardRefusal b ≡ 0) where
   -- a sound board that is written as a plain diagram reads back as the same board: `text::read_diagram` of what `write_diagram` writes
@@ -227,8 +236,3 @@ module _ (b : Board) (h : boardRefusal b ≡ 0) where
     where
       answer : Board → BoardAnswer
       answer x = record { refused = 0; board = x }
-
-  -- .. and by the live entry, `text::read_board`
-  pub reads-back-live : boardAnswer (readRefusal (diagramOf (cells b))) (readCells (diagramOf (cells b)))
-      ≡ record { refused = 0; board = b }
-  reads-back-live = let same = live-same (cells b) in ap₂ boardAnswer (same .0) (same .1) ∙ reads-back

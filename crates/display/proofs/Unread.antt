@@ -6,16 +6,14 @@ use Prim.Native.Nat.{ℕ, _+_, _-_, _≤_, _<_}
 use native.Mathlib.Omega.{arith}
 use lib.Dec.{eqb, leb, ltb}
 use lib.ListN.{length, getD, take, drop}
-use borrow.Author.Tests.{ne-eqb}
 use Rattle.rules.specs.Refusals.{first, unless}
 use Rattle.rules.specs.Tools.{gather, only}
 use Rattle.rules.specs.Point.{codeOf}
 use Rattle.rules.proofs.Logic.{all-fails}
-use Rattle.text.specs.Bytes.{newline, blank, comma, dot, slash, digitZero, capitalA, capitalO, smallO, smallX}
+use Rattle.text.specs.Bytes.{newline, blank, dot, digitZero, capitalA, capitalO, smallO, smallX}
 use Rattle.text.specs.Bytes.{space, trim, trimStart, trimEnd, dense, has, parts}
-use Rattle.text.specs.Reading.{sizeAt, diagramRefusal, diagramTextRefusal, readRefusal}
+use Rattle.text.specs.Reading.{sizeAt, diagramRefusal, diagramTextRefusal}
 use Rattle.text.proofs.Places.{end-more}
-use Rattle.text.proofs.Said.{as-diagram-refusal}
 use Rattle.display.specs.Texts.{numberText, rightAligned, lineText, rowText, numberedRow, columnsText, numberedOf}
 use Rattle.display.proofs.Sizes.{numbered-length}
 use Rattle.display.proofs.Shown.{All, only-one, number-has, all-append, all-gather, all-has, all-text, row-has, parts-line}
@@ -47,14 +45,6 @@ module _ (P : ℕ → Type 0) (n : P newline) (s : P blank) (o : P smallO) (x : 
   unfolding numberedOf
   numbered-has grid =
       all-append P (gather 15 (numberedRow grid)) columnsText (all-gather P 15 (numberedRow grid) (λ k _. line-has grid k)) columns-has
-
--- ---- it is no list
-numbered-none : (grid : List ℕ) (d : ℕ) → d < digitZero → eqb newline d ≡ false → eqb blank d ≡ false → eqb dot d ≡ false
-    → has d (numberedOf grid) ≡ false
-numbered-none grid d h n s e =
-    all-has d (numberedOf grid)
-    (numbered-has (λ b. eqb b d ≡ false) n s (ne-eqb smallO d (λ w. omega arith)) (ne-eqb smallX d (λ w. omega arith)) e
-    (λ k l. ne-eqb (digitZero + k) d (λ w. omega arith)) (λ k l. ne-eqb (capitalA + k) d (λ w. omega arith)) grid)
 
 -- ---- its first line
 first-line : List ℕ → List ℕ
@@ -109,10 +99,3 @@ numbered-refused grid =
       numbered-lines grid,
     )
     (long-refused (first-line grid) (parts newline (drop 33 (numberedOf grid))) (line-cells grid))
-
--- .. and by the live entry, `text::read_board`
-pub numbered-refused-live : (grid : List ℕ) → readRefusal (numberedOf grid) ≡ 5
-numbered-refused-live grid =
-    as-diagram-refusal (numberedOf grid) (numbered-none grid slash (omega arith) refl refl refl)
-    (numbered-none grid comma (omega arith) refl refl refl)
-    ∙ numbered-refused grid

@@ -10,6 +10,7 @@ use lib.Dec.{T, eqb, leb, ltb, leb→le}
 use lib.ListN.{length, getD, take, drop, length-take, length-append, length-replicate, List·getD-append}
 use lib.Seq.{take-suc, take-append-le, getD-take, getD-append-seam}
 use borrow.Author.Tests.{eq-eqb, ne-eqb, eqb-true, eqb-false, leb-true, leb-false, ltb-true, ltb-false}
+use Rattle.rules.specs.Refusals.{notNext}
 use Rattle.rules.proofs.Logic.{decide, and-left, and-right, true-T}
 use Rattle.lent.specs.Lists.{zeros}
 use Rattle.feed.specs.declared.message.Message.{Message}
@@ -17,7 +18,7 @@ use Rattle.feed.specs.declared.message.Answer.{Answer}
 use Rattle.feed.specs.declared.client.Client.{Client}
 use Rattle.feed.specs.declared.server.Server.{Server}
 use Rattle.feed.specs.declared.server.MessageAnswer.the-variants.{Is, Refused}
-use Rattle.feed.specs.Feed.{notNext, listOf, sizeOf, noMoves, grown, shrunk, addRefusal, newClient, answerOf, refusalBy, takes, newServer}
+use Rattle.feed.specs.Feed.{listOf, sizeOf, noMoves, grown, shrunk, addRefusal, newClient, answerOf, refusalBy, takes, newServer}
 use Rattle.feed.specs.Feed.{addsTo, lastGame, takesBack, messageOf, hasMove, messageAnswer}
 use Rattle.feed.specs.Runs.{State, begun, Event, Adds, TakesBack, Sends, Loses, Repeats, Arrives, Asks, LosesAnswer, RepeatsAnswer, Hears}
 use Rattle.feed.specs.Runs.{without, twice, at, withLine, served, withSent, delivered, heardBy, arrives, heard, next}

@@ -8,14 +8,14 @@ use native.Mathlib.Omega.{arith}
 use lib.Dec.{eqb, leb, ltb, eqb→eq, ltb→lt}
 use lib.ListN.{length}
 use borrow.Author.Tests.{eq-eqb, ne-eqb, eqb-true, eqb-false, lt-ltb, le-leb, lt-leb, leb-true, leb-false}
-use Rattle.rules.specs.Refusals.{noPoint, noRoom, manyMoves, first, unless, codeRefusal}
+use Rattle.rules.specs.Refusals.{noPoint, noRoom, manyMoves, first, unless, codeRefusal, foreignGame, notNext}
 use Rattle.rules.proofs.Refusals.{first-none, none-first, passed, pass}
 use Rattle.rules.proofs.Logic.{decide, true-T}
 use Rattle.feed.specs.declared.message.Message.{Message}
 use Rattle.feed.specs.declared.message.Answer.{Answer}
 use Rattle.feed.specs.declared.client.Client.{Client}
 use Rattle.feed.specs.declared.server.Server.{Server}
-use Rattle.feed.specs.Feed.{foreignGame, notNext, sizeOf, grown, shrunk, addRefusal, takeRefusal, refusalBy, after, takes, answerOf}
+use Rattle.feed.specs.Feed.{sizeOf, grown, shrunk, addRefusal, takeRefusal, refusalBy, after, takes, answerOf}
 use Rattle.feed.specs.Feed.{heldRefusal, addsTo, lastGame, takesBack, hears}
 use Rattle.feed.proofs.Lists.{size-grown}
 

@@ -5,7 +5,7 @@ use Prim.Native.Nat.{ℕ, _+_}
 use denote.Ref.{RefT}
 use lib.Dec.{eqb, ltb}
 use lib.ListN.{length, drop}
-use Rattle.rules.specs.Refusals.{unless}
+use Rattle.rules.specs.Refusals.{apartLists, unless}
 
 -- the first list begins the second
 unfoldable pub begins : List ℕ → List ℕ → Bool
@@ -14,9 +14,6 @@ begins (x ∷ s) [] = false
 begins (x ∷ s) (y ∷ t) = eqb x y && begins s t
 
 -- "19 for lists where neither begins the other"
-abbrev pub apartLists : ℕ
-apartLists = 19
-
 unfoldable pub missingRefusal : List ℕ → List ℕ → ℕ
 missingRefusal a b = unless (begins a b || begins b a) apartLists
 

@@ -4,7 +4,7 @@ use mathlib.Core.List.{List}
 use Prim.Native.Nat.{ℕ, _+_, _-_, max}
 use lib.Dec.{eqb, leb, ltb}
 use lib.ListN.{length, getD, take, set}
-use Rattle.rules.specs.Refusals.{noRoom, manyMoves, first, unless, codeRefusal}
+use Rattle.rules.specs.Refusals.{noRoom, manyMoves, foreignGame, notNext, first, unless, codeRefusal}
 use Rattle.lent.specs.Lists.{zeros}
 use Rattle.feed.specs.declared.message.Message.{Message}
 use Rattle.feed.specs.declared.message.Answer.{Answer}
@@ -15,16 +15,6 @@ use Rattle.feed.specs.declared.server.Server.{Server}
 use Rattle.feed.specs.declared.server.ServerAnswer.{ServerAnswer}
 use Rattle.feed.specs.declared.server.MessageAnswer.{MessageAnswer}
 use Rattle.feed.specs.declared.server.MessageAnswer.the-variants.{Is, Refused}
-
--- ---- the numbers given back
-
--- "17 for a foreign game"
-abbrev pub foreignGame : ℕ
-foreignGame = 17
-
--- "18 for a number that is not next"
-abbrev pub notNext : ℕ
-notNext = 18
 
 -- ---- lists of moves
 

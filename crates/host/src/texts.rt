@@ -12,7 +12,7 @@ ghost use Rattle.display.specs.Texts.{diagramOf, numberedOf};
 ghost use Rattle.host.specs.Answers.{listWord, lengthWord};
 ghost use Rattle.cells.specs.Cells.{cellsRefusal};
 
-// The cells that a text says, to the front of `cells`.
+// The cells that a text says, stones or moves, to the front of `cells`.
 #[no_mangle]
 pub extern "C" fn renju_read(text: &[u8], cells: &mut [u8]) -> u32
     ensures { λ r. ⌜ (r ≡ listWord 1 (readRefusal (now (text .entry))) (now (cells .entry)) (readCells (now (text .entry))))
@@ -24,7 +24,7 @@ pub extern "C" fn renju_read(text: &[u8], cells: &mut [u8]) -> u32
     word(refused, 225)
 }
 
-// The plain diagram, which `renju_read` reads back.
+// The plain diagram, which `renju_read_diagram` reads back.
 #[no_mangle]
 pub extern "C" fn renju_to_string(cells: &[u8], out: &mut [u8]) -> u32
     ensures { λ r. ⌜ (r ≡ listWord 1 (cellsRefusal (now (cells .entry))) (now (out .entry)) (diagramOf (now (cells .entry))))

@@ -20,7 +20,7 @@ pub(crate) fn rest_of(record: &[u8]) -> &[u8] {
 // Where the text of a record starts.
 fn start_of(record: &[u8]) -> usize {
     match byte_at(record, 0) {
-        b't' | b'T' | b'i' | b'p' | b'L' | b'P' => 2,
+        b't' | b'T' | b'M' | b'c' | b'C' | b'i' | b'p' | b'L' | b'P' => 2,
         b'y' => 5,
         b'g' => 8,
         b'I' => 15,
@@ -42,8 +42,8 @@ pub(crate) fn is_whole(record: &[u8]) -> bool {
 // The fields beside the text. Where it is the last one nothing stands behind it.
 fn has_fields(record: &[u8]) -> bool {
     match byte_at(record, 0) {
-        b't' | b'T' => is_board_field(rest_of(record)),
-        b'p' | b'L' => is_list_field(rest_of(record)),
+        b't' | b'T' | b'M' | b'c' => is_board_field(rest_of(record)),
+        b'p' | b'L' | b'C' => is_list_field(rest_of(record)),
         b'P' => is_list(rest_of(record)),
         b'g' => has_form(tail(record, 1), b" 00 00 "),
         b'd' | b'D' => has_form(tail(record, 227), b" "),

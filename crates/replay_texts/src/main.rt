@@ -1,5 +1,6 @@
 // Replays recorded answers about texts, read from standard input: asks each question again and holds the answer to the record. Writes
-// what `records` says of a replay. The answers are the original's, but under `T` and `L`, the texts that request 5 speaks of.
+// what `records` says of a replay. The answers are the original's, but under `T` and `L`, the texts that request 5 speaks of, and under
+// `M` and `C`, what request 13 makes of texts with no slash and no comma: one move, and stones text. `c` has the original's of these.
 mod fields;
 mod lines;
 mod points;
@@ -14,6 +15,7 @@ use lines::replay_segment;
 use points::replay_list;
 use points::replay_listed;
 use points::replay_point;
+use reading::replay_converted;
 use reading::replay_diagram;
 use reading::replay_text;
 use records::answer;
@@ -36,10 +38,10 @@ fn replay_all(text: &[u8]) {
     let mut at = 0;
     while at < text.len() {
         let record = line_at(text, at);
-        count(&mut counts, b"tTdDypLPiIg", record, replay(record));
+        count(&mut counts, b"tTcMCdDypLPiIg", record, replay(record));
         at = next_line(text, at);
     }
-    say_counts(b"tTdDypLPiIg", &counts);
+    say_counts(b"tTcMCdDypLPiIg", &counts);
 }
 
 // A record that is not well formed is not asked about, and differs.
@@ -48,7 +50,9 @@ fn replay(record: &[u8]) -> u32 {
         return answer(0, false);
     }
     match byte_at(record, 0) {
-        b't' | b'T' => replay_text(record),
+        b't' | b'T' | b'M' => replay_text(false, record),
+        b'c' => replay_text(true, record),
+        b'C' => replay_converted(record),
         b'd' => replay_diagram(record, 0),
         b'D' => replay_diagram(record, 5),
         b'y' => replay_point(record),

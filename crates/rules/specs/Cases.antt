@@ -147,11 +147,11 @@ realBefore ask cells p d j =
 unfoldable pub strictBefore : Ask Verdict
 strictBefore =
     nestedOf None
-        (λ (ask : Ask Verdict) (cells : List ℕ) (p : ℕ).
-            cond (isEmpty (getD cells p 0) && not (completesFive cells p))
-                (firstKind (isOverline cells p) (isDoubleFour cells p)
-                    (moreTwos cells p && moreThanOne (realBefore ask (withBlack cells p) p)))
-                None)
+    (λ (ask : Ask Verdict) (cells : List ℕ) (p : ℕ).
+    cond (isEmpty (getD cells p 0) && not (completesFive cells p))
+    (firstKind (isOverline cells p) (isDoubleFour cells p)
+    (moreTwos cells p && moreThanOne (realBefore ask (withBlack cells p) p)))
+    None)
 
 -- by document 01 alone the verdict at p is the first, by No. 6 the second
 abbrev pub beforeAndNow : List ℕ → ℕ → Verdict → Verdict → Bool

@@ -74,9 +74,25 @@ malformed = 15
 abbrev pub turnedView : ℕ
 turnedView = 16
 
+-- "17 for a foreign game"
+abbrev pub foreignGame : ℕ
+foreignGame = 17
+
+-- "18 for a number that is not next"
+abbrev pub notNext : ℕ
+notNext = 18
+
+-- "19 for lists where neither begins the other"
+abbrev pub apartLists : ℕ
+apartLists = 19
+
 -- "20 for anything outside the subset"
 abbrev pub outsideSubset : ℕ
 outsideSubset = 20
+
+-- "22 for a side without stones"
+abbrev pub oneSided : ℕ
+oneSided = 22
 
 -- ---- the order
 

@@ -7,6 +7,8 @@ pub mod Marks
 pub mod Items
 -- which texts name a point, said plainly
 pub mod Named
+-- a text with no slash and no comma is one move
+pub mod Lone
 -- a diagram, one cell and one line a turn
 pub mod Lined
 -- what is given back of a text

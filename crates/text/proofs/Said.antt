@@ -16,11 +16,11 @@ use Rattle.lent.specs.Lists.{Held, padded}
 use Rattle.lent.proofs.Laws.{held-take}
 use Rattle.cells.specs.Answers.{cellsAnswer}
 use Rattle.cells.specs.Cells.{codesRefusal, stonesCells}
-use Rattle.text.specs.Bytes.{newline, comma, slash, trim, has, behind, parts, textRefusal}
+use Rattle.text.specs.Bytes.{comma, slash, trim, behind, parts, textRefusal}
 use Rattle.text.specs.Points.{columnIn, rowIn, placeRefusal, itemRefusal, itemCode, itemsRefusal, itemCodes, pointsRefusal}
 use Rattle.text.specs.Points.{pointsIn, leadingIn, listTextRefusal, leadingAnswer, listFound, leadingFound}
-use Rattle.text.specs.Reading.{blackList, whiteList, slashRefusal, stonesTextRefusal, stonesIn, movesIn, diagramRefusal}
-use Rattle.text.specs.Reading.{diagramCells, formRefusal, readRefusal, readCells, diagramTextRefusal, diagramTextCells}
+use Rattle.text.specs.Reading.{blackList, whiteList, slashRefusal, stonesTextRefusal, stonesIn, movesIn}
+use Rattle.text.specs.Reading.{formRefusal, readRefusal, readCells}
 use Rattle.text.specs.declared.points.Leading.{Leading}
 use Rattle.text.proofs.Places.{has-yes, has-no, has-not}
 use Rattle.text.proofs.Items.{codes-all}
@@ -146,22 +146,6 @@ module _ (s : List ℕ) (z : textRefusal s ≡ 0) (t : List ℕ) (et : t ≡ tri
   unfolding readRefusal formRefusal readCells first
   read-stones p = rw (eq-eqb (textRefusal s) 0 z, has-yes slash s (omega arith), et)
 
-  module _ (p : length s ≤ n) (m : ℕ) (em : m ≡ findAt comma s) where
-    pub read-moves : m < length s → cellsAnswer (pointsRefusal t) (movesIn t) ≡ cellsAnswer (readRefusal s) (readCells s)
-    unfolding readRefusal formRefusal readCells first
-    read-moves q = rw (eq-eqb (textRefusal s) 0 z, has-no slash s (omega arith), has-yes comma s (omega arith), et)
-
-    pub read-diagram : length s ≤ m
-        → cellsAnswer (diagramRefusal (parts newline t)) (diagramCells (parts newline t)) ≡ cellsAnswer (readRefusal s) (readCells s)
-    unfolding readRefusal formRefusal readCells first
-    read-diagram q = rw (eq-eqb (textRefusal s) 0 z, has-no slash s (omega arith), has-no comma s (omega arith), et)
-
--- a text with neither slash nor comma is read as a diagram
-module _ (s : List ℕ) (p : has slash s ≡ false) (q : has comma s ≡ false) where
-  pub as-diagram-refusal : readRefusal s ≡ diagramTextRefusal s
-  unfolding readRefusal formRefusal diagramTextRefusal
-  as-diagram-refusal = rw (p, q)
-
-  pub as-diagram-cells : readCells s ≡ diagramTextCells s
-  unfolding readCells diagramTextCells
-  as-diagram-cells = rw (p, q)
+  pub read-moves : length s ≤ n → cellsAnswer (pointsRefusal t) (movesIn t) ≡ cellsAnswer (readRefusal s) (readCells s)
+  unfolding readRefusal formRefusal readCells first
+  read-moves p = rw (eq-eqb (textRefusal s) 0 z, has-no slash s (omega arith), et)

@@ -21,7 +21,7 @@ use Rattle.cells.specs.declared.answer.CellsAnswer.{CellsAnswer}
 use Rattle.cells.proofs.Given.{moves-ok, stones-ok}
 use Rattle.board.specs.Boards.{boardOf, boardRefusal, cells}
 use Rattle.board.proofs.Given.{board-sound, board-cells}
-use Rattle.text.specs.Bytes.{newline, comma, slash, smallO, smallX, trim, has, parts, dense}
+use Rattle.text.specs.Bytes.{newline, slash, smallO, smallX, trim, has, parts, dense}
 use Rattle.text.specs.Points.{pointsIn}
 use Rattle.text.specs.Reading.{blackList, whiteList, stonesIn, movesIn, letterCell, diagramCells, diagramTextCells, readCells}
 
@@ -49,12 +49,11 @@ diagram-text-ok s = diagram-ok (parts newline (trim s))
 
 pub read-ok : (s : List ℕ) → Cells (readCells s)
 unfolding readCells stonesIn movesIn
-read-ok s = go (has slash s) (has comma s)
+read-ok s = go (has slash s)
   where
-    go : (a b : Bool) → Cells (cond a (stonesIn (trim s)) (cond b (movesIn (trim s)) (diagramCells (parts newline (trim s)))))
-    go true b = stones-ok (pointsIn (blackList (trim s))) (pointsIn (whiteList (trim s)))
-    go false true = moves-ok (pointsIn (trim s))
-    go false false = diagram-ok (parts newline (trim s))
+    go : (a : Bool) → Cells (cond a (stonesIn (trim s)) (movesIn (trim s)))
+    go true = stones-ok (pointsIn (blackList (trim s))) (pointsIn (whiteList (trim s)))
+    go false = moves-ok (pointsIn (trim s))
 
 -- the board that a text says is sound, and has the cells that it says
 pub read-sound : (s : List ℕ) → boardRefusal (boardOf (readCells s)) ≡ 0

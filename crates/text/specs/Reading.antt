@@ -1,5 +1,5 @@
--- What a text says (section 7, and request 5): the 225 cells of a board, or the number of a refusal. The quoted sentences are document
--- 01's, and 02's where it is named.
+-- What a text says (section 7, and requests 5 and 13): the 225 cells of a board, or the number of a refusal. The quoted sentences are
+-- document 01's, and 02's where it is named.
 use mathlib.Core.Bool.{Bool, not, cond}
 use mathlib.Core.List.{List, []}
 use Prim.Native.Nat.{ℕ, _-_}
@@ -9,7 +9,7 @@ use Rattle.rules.specs.Refusals.{noColumn, overLength, wrongCount, wrongSize, u
 use Rattle.rules.specs.Tools.{allBelow, tab}
 use Rattle.rules.specs.Point.{xOf, yOf}
 use Rattle.cells.specs.Cells.{movesCells, stonesCells}
-use Rattle.text.specs.Bytes.{newline, comma, slash, smallO, smallX, trim, has, before, behind, parts, dense, textRefusal}
+use Rattle.text.specs.Bytes.{newline, slash, smallO, smallX, trim, has, before, behind, parts, dense, textRefusal}
 use Rattle.text.specs.Points.{pointsRefusal, pointsIn}
 
 -- ---- "Stones: two comma lists, black then white"
@@ -37,6 +37,8 @@ stonesIn s = stonesCells (pointsIn (blackList s)) (pointsIn (whiteList s))
 unfoldable pub movesIn : List ℕ → List ℕ
 movesIn s = movesCells (pointsIn s)
 
+-- ---- the converter's reader (document 02: "a separate converter reads them by document 01's diagram rules")
+
 -- ---- "Diagram: 15 lines parted by byte 10, from row 15 down, spaces dropped, 15 cells each"
 
 -- how many cells line k has
@@ -61,22 +63,22 @@ letterCell b = cond (eqb b smallO) 1 (cond (eqb b smallX) 2 0)
 unfoldable pub diagramCells : List (List ℕ) → List ℕ
 diagramCells lines = tab 225 (λ p. letterCell (getD (dense (getD lines (14 - yOf p) [])) (xOf p) 0))
 
--- .. of a text that is a diagram, whatever bytes it has: "All are trimmed."
+-- .. of a text that is a diagram, whatever bytes it has: a slash or a comma is an empty cell. "All are trimmed."
 unfoldable pub diagramTextRefusal : List ℕ → ℕ
 diagramTextRefusal s = first (textRefusal s) (diagramRefusal (parts newline (trim s)))
 
 unfoldable pub diagramTextCells : List ℕ → List ℕ
 diagramTextCells s = diagramCells (parts newline (trim s))
 
--- ---- "Text with "/" is stones; else with "," is moves; else a diagram. All are trimmed."
+-- ---- the live entry: "Text with "/" is stones; else .. moves. All are trimmed." and "text with no "/" and no "," is now one move"
+-- (document 02), which is a list of one item (proofs/Lone.antt)
 
 unfoldable pub formRefusal : List ℕ → ℕ
-formRefusal s =
-    cond (has slash s) (stonesTextRefusal (trim s)) (cond (has comma s) (pointsRefusal (trim s)) (diagramRefusal (parts newline (trim s))))
+formRefusal s = cond (has slash s) (stonesTextRefusal (trim s)) (pointsRefusal (trim s))
 
 unfoldable pub readCells : List ℕ → List ℕ
-readCells s = cond (has slash s) (stonesIn (trim s)) (cond (has comma s) (movesIn (trim s)) (diagramCells (parts newline (trim s))))
+readCells s = cond (has slash s) (stonesIn (trim s)) (movesIn (trim s))
 
--- "Order: text 1, 2, then the first of 3 to 7 that the reading meets"
+-- "Order: text 1, 2, then the first of" 3 and 4 "that the reading meets"; "5, 6 and 7 (now the converter's only)" (document 02)
 unfoldable pub readRefusal : List ℕ → ℕ
 readRefusal s = first (textRefusal s) (formRefusal s)

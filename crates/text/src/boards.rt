@@ -7,14 +7,14 @@ ghost use mathlib.Core.Path.{_≡_};
 ghost use Rattle.board.specs.Answers.{boardAnswer};
 ghost use Rattle.text.specs.Reading.{readRefusal, readCells, diagramTextRefusal, diagramTextCells};
 
-// With a slash stones, else with a comma moves, else a diagram.
+// The live entry: with a slash stones, else moves; a lone point is one move, Black's.
 pub fn read_board(text: &[u8]) -> BoardAnswer
     ensures { λ r. ⌜ r ≡ boardAnswer (readRefusal (now (text .entry))) (readCells (now (text .entry))) ⌝ }
 {
     Board::read(read_cells(text))
 }
 
-// Of a diagram, whatever bytes the text has.
+// The converter's reader: of a diagram, whatever bytes the text has.
 pub fn read_diagram(text: &[u8]) -> BoardAnswer
     ensures { λ r. ⌜ r ≡ boardAnswer (diagramTextRefusal (now (text .entry))) (diagramTextCells (now (text .entry))) ⌝ }
 {

@@ -1,4 +1,4 @@
-// A diagram in text: 15 lines from row 15 down, read cell by cell.
+// A diagram in text, which only the converter reads: 15 lines from row 15 down, cell by cell.
 use super::bytes::is_space;
 use super::bytes::text_refusal;
 use super::bytes::trimmed;
@@ -15,7 +15,7 @@ ghost use Rattle.text.specs.Bytes.{newline, dense, parts};
 ghost use Rattle.text.specs.Reading.{letterCell, countRefusal, diagramRefusal, diagramCells, diagramTextRefusal, diagramTextCells};
 ghost use Rattle.text.specs.Rows.{letterPut, rowPut};
 
-// The cells of a diagram, whatever bytes the text has.
+// The cells of a diagram, whatever bytes the text has: a slash or a comma is an empty cell.
 pub fn read_diagram_cells(text: &[u8]) -> CellsAnswer
     ensures { λ r. ⌜ r ≡ cellsAnswer (diagramTextRefusal (now (text .entry))) (diagramTextCells (now (text .entry))) ⌝ }
 {
@@ -27,7 +27,7 @@ pub fn read_diagram_cells(text: &[u8]) -> CellsAnswer
 }
 
 // Too long a line is met wherever it stands, so lines past the fifteenth are read too; they are put nowhere.
-pub(crate) fn diagram_in(t: &[u8]) -> CellsAnswer
+fn diagram_in(t: &[u8]) -> CellsAnswer
     ensures { λ r. ⌜ r ≡ cellsAnswer (diagramRefusal (parts newline (now (t .entry)))) (diagramCells (parts newline (now (t .entry)))) ⌝ }
 {
     let mut cells = [0u8; 225];

@@ -1,7 +1,6 @@
-// The cells that a text says: stones, moves or a diagram.
+// The cells that a text says to the live entry: stones or moves.
 use super::bytes::text_refusal;
 use super::bytes::trimmed;
-use super::diagram::diagram_in;
 use super::points::leading_in;
 use cells::CellsAnswer;
 use cells::moves_cells;
@@ -18,7 +17,7 @@ ghost use Rattle.cells.specs.Answers.{cellsAnswer};
 ghost use Rattle.text.specs.Points.{pointsRefusal};
 ghost use Rattle.text.specs.Reading.{stonesTextRefusal, stonesIn, movesIn, readRefusal, readCells};
 
-// With a slash stones, else with a comma moves, else a diagram.
+// With a slash stones, else moves: a lone point is one move, Black's. No diagram is read here.
 pub fn read_cells(text: &[u8]) -> CellsAnswer
     ensures { λ r. ⌜ r ≡ cellsAnswer (readRefusal (now (text .entry))) (readCells (now (text .entry))) ⌝ }
 {
@@ -30,10 +29,7 @@ pub fn read_cells(text: &[u8]) -> CellsAnswer
     if find(text, b'/') < text.len() {
         return stones_in(t);
     }
-    if find(text, b',') < text.len() {
-        return moves_in(t);
-    }
-    diagram_in(t)
+    moves_in(t)
 }
 
 // Black's list, a slash, White's list. A second slash is refused, behind whatever is refused of the lists.

@@ -10,8 +10,11 @@
 //!
 //! Texts that request 5 of document 02 speaks of are left out of the comparison with the original,
 //! by `oracle::left_out`, and so are verdicts, lists and games that meet an eye that completes a five
-//! (request 6). They are held to the naive reading, and counted. Every verdict and list is asked of
-//! the naive reading; where nothing is left out it must answer as the original does.
+//! (request 6). By request 13 a text with no slash and no comma, a diagram to the original, is compared
+//! for the converter's reader and left out for `renju_read`; one with a slash or a comma the other way
+//! round. They are held to the naive reading, and counted; so is all that `renju_convert` answers, which
+//! the original has not. Every verdict and list is asked of the naive reading; where nothing is left out
+//! it must answer as the original does.
 //!
 //! What the fast referee is asked about rows and verdicts, the second referee is asked right after
 //! it: a comparison of its own, held to the same answer.

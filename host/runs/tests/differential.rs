@@ -15,8 +15,8 @@ const SHORT: Plan = Plan {
 };
 
 /// The refusals of each function, as the host interface lists them.
-const REFUSALS: [&[usize]; 26] = [
-    &[1, 2, 3, 4, 5, 6, 7, 13],
+const REFUSALS: [&[usize]; 28] = [
+    &[1, 2, 3, 4, 13],
     &[9, 13],
     &[9, 13],
     &[8, 9, 12],
@@ -42,6 +42,8 @@ const REFUSALS: [&[usize]; 26] = [
     &[8, 9],
     &[9, 13],
     &[8, 13, 14],
+    &[1, 2, 5, 6, 7, 13],
+    &[1, 2, 5, 6, 7, 13, 22],
 ];
 
 fn short(host: &Host) -> Tally {
@@ -66,7 +68,7 @@ fn ours_has_no_difference_and_every_refusal_is_met() {
     assert_eq!(tally.differences(), 0);
     assert!(tally.comparisons() >= SHORT.comparisons);
     for ((name, count), refusals) in NAMES.iter().zip(&tally.counts).zip(REFUSALS) {
-        let met = (0..15).filter(|&number| count.refusals[number] > 0);
+        let met = (0..23).filter(|&number| count.refusals[number] > 0);
         assert_eq!(met.collect::<Vec<_>>(), refusals, "{name}");
         let refused: u64 = count.refusals.iter().sum();
         assert!(count.comparisons > refused, "{name} answers too");
@@ -80,6 +82,11 @@ fn ours_has_no_difference_and_every_refusal_is_met() {
     for (left_out, of) in tally.left_out.iter().zip([read, verdicts, lists, games]) {
         assert!((1..of / 3).contains(left_out), "{left_out} of {of}");
     }
+    // Of a text that is no other refusal's either the live entry or the converter's reader is held
+    // to the original, and never both.
+    let [.., lone, diagrams] = tally.left_out;
+    assert!(lone > 100 && diagrams > 100, "{lone}, {diagrams}");
+    assert!(lone + diagrams <= asked(Call::ReadDiagram));
 }
 
 /// The second referee's functions are counted under their own names, and asked what the fast one's
@@ -245,15 +252,63 @@ fn a_byte_outside_the_lent_ones_is_found() {
 fn a_refusal_that_writes_is_found() {
     let wrong = |call: &Call, given: &[u8], lent: &mut Lent| {
         let word = ask(call, given, lent);
-        if *call == Call::Read && word == 6 << 16 && !lent.is_empty() {
+        if *call == Call::Read && word == 3 << 16 && !lent.is_empty() {
             lent[0] ^= 1;
         }
         word
     };
     let found = only_difference(&wrong);
-    assert_eq!(found.got.word, 6 << 16);
-    // The empty text is no diagram: one line.
+    assert_eq!(found.got.word, 3 << 16);
+    // The empty text is one move without a column.
     assert_eq!(found.size(), (0, 0));
+}
+
+/// The original's own reading of a text with no slash and no comma, by request 13 the converter's.
+#[test]
+fn a_diagram_at_the_live_entry_is_found() {
+    let wrong = |call: &Call, given: &[u8], lent: &mut Lent| {
+        let is_lone = *call == Call::Read && given.is_ascii() && left_out::lone(given);
+        if is_lone && given.len() <= 4096 {
+            return ask(&Call::ReadDiagram, given, lent);
+        }
+        ask(call, given, lent)
+    };
+    let found = only_difference(&wrong);
+    assert_eq!((found.expected.word, found.got.word), (3 << 16, 6 << 16));
+    assert_eq!(found.size(), (0, 0));
+}
+
+/// White before Black; with one stone each the word is the same.
+#[test]
+fn sides_in_another_order_are_found() {
+    let wrong = |call: &Call, given: &[u8], lent: &mut Lent| {
+        let word = ask(call, given, lent);
+        if *call == Call::Convert && word < 65536 {
+            let text = &mut lent[..word as usize];
+            let mut sides: Vec<&[u8]> = text.split(|&b| b == b'/').collect();
+            sides.reverse();
+            let swapped = sides.join(&b'/');
+            text.copy_from_slice(&swapped);
+        }
+        word
+    };
+    let found = only_difference(&wrong);
+    assert_eq!(found.expected.word, found.got.word);
+    assert!(report::difference(&found).contains("renju_convert"));
+}
+
+/// 13 before 22, where there is no room for any text.
+#[test]
+fn no_room_before_a_side_without_stones_is_found() {
+    let wrong = |call: &Call, given: &[u8], lent: &mut Lent| {
+        let word = ask(call, given, lent);
+        if *call == Call::Convert && word == 22 << 16 && lent.len() < 5 {
+            return 13 << 16;
+        }
+        word
+    };
+    let found = only_difference(&wrong);
+    assert_eq!((found.expected.word, found.got.word), (22 << 16, 13 << 16));
 }
 
 /// The original's own reading, where request 5 reads otherwise.
@@ -261,7 +316,7 @@ fn a_refusal_that_writes_is_found() {
 fn the_old_reading_of_texts_is_found() {
     let wrong = |call: &Call, given: &[u8], lent: &mut Lent| {
         let word = ask(call, given, lent);
-        let is_left_out = *call == Call::Read && left_out::text(given);
+        let is_left_out = *call == Call::Read && left_out::typed(given);
         match std::str::from_utf8(given).map(original::read) {
             Ok(Ok(cells)) if is_left_out && given.len() <= 4096 && lent.len() >= 225 => {
                 lent[..225].copy_from_slice(&cells);

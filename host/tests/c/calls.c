@@ -27,11 +27,27 @@ static uint32_t read_text(const char *text) {
     return renju_read((const uint8_t *)text, strlen(text), cells, sizeof cells);
 }
 
+/* The plain diagram in `out`, read back and converted; then no diagram at all. */
+static void saved(void) {
+    uint8_t diagram[RENJU_DIAGRAM];
+    uint32_t word;
+    memcpy(diagram, out, sizeof diagram);
+    say("read_diagram", renju_read_diagram(diagram, sizeof diagram, cells, sizeof cells), 0);
+    word = renju_convert(diagram, sizeof diagram, out, RENJU_STONES_TEXT);
+    say("convert", word, 0);
+    printf("%.*s\n", (int)renju_answer(word), (const char *)out);
+    say("convert", renju_convert(diagram, sizeof diagram, out, 4), 0);
+    say("convert", renju_convert(diagram, 4, out, 4), 0);
+    memset(diagram, '.', sizeof diagram);
+    say("read_diagram", renju_read_diagram(diagram, 16, cells, sizeof cells), 0);
+}
+
 static void texts(void) {
     say("read", read_text("H16,A1"), 0);
     say("read", read_text("G8,I8,H7,H9/A1"), 0);
     say("to_string", renju_to_string(cells, sizeof cells, out, RENJU_DIAGRAM), 0);
     printf("%.*s\n", RENJU_DIAGRAM, (const char *)out);
+    saved();
     say("to_string", renju_to_string(cells, sizeof cells, out, RENJU_DIAGRAM - 1), 0);
     say("to_pretty_string", renju_to_pretty_string(cells, sizeof cells, out, RENJU_PRETTY), 0);
     printf("%.*s\n", RENJU_PRETTY, (const char *)out);

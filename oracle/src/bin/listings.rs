@@ -39,7 +39,7 @@ fn list_input() -> ExitCode {
 fn compare(program: &str, count: u64, seed: u64) -> ExitCode {
     let mut dice = Dice::new(seed);
     let (mut refused, mut lines, mut differences) = (0, 0, 0);
-    let (mut texts, mut lists) = (0, 0);
+    let (mut typed, mut lone, mut lists) = (0, 0, 0);
     for _ in 0..count {
         let bytes = text(&mut dice);
         let expected = listing(&bytes);
@@ -51,7 +51,8 @@ fn compare(program: &str, count: u64, seed: u64) -> ExitCode {
             }
         };
         refused += u64::from(expected.starts_with("refused"));
-        texts += u64::from(left_out::text(&bytes));
+        typed += u64::from(left_out::typed(&bytes));
+        lone += u64::from(left_out::lone(&bytes));
         lists += u64::from(list_is_left_out(&bytes));
         lines += expected.lines().count();
         if written != expected.as_bytes() {
@@ -65,7 +66,7 @@ fn compare(program: &str, count: u64, seed: u64) -> ExitCode {
     }
     println!("texts {count}, of these {refused} refused, lines {lines}, differences {differences}");
     println!(
-        "left out of the comparison with the original, by request 5: texts {texts}, by request 6: lists {lists}"
+        "left out of the comparison with the original: texts {typed} by request 5, {lone} by request 13, lists {lists} by request 6"
     );
     ExitCode::from(u8::from(differences > 0))
 }

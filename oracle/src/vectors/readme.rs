@@ -62,7 +62,10 @@ Every record starts with `SIZE BLACKS WHITES`, the line's size and two masks.
 ### texts.txt
 
 - `t TEXT 00 CELLS` a text that reads as a board, `t TEXT R` one that is
-  refused with number R, 03 to 07. TEXT is the text's bytes as a list.
+  refused with number R, 03 or 04. TEXT is the text's bytes as a list.
+- `c TEXT 00 CELLS`, `c TEXT R` the same for a text with no slash and no comma,
+  which the original reads as a diagram: R is 05 to 07. By request 13 of document
+  02 that is the converter's reader.
 - `d CELLS TEXT` the plain diagram, `D CELLS TEXT` the numbered one.
 - `y CODE TEXT` the text of a point.
 - `p TEXT 00 LIST` a text that reads as a list of points, `p TEXT R` one that
@@ -72,6 +75,10 @@ Every record starts with `SIZE BLACKS WHITES`, the line's size and two masks.
   these texts (`oracle/src/left_out.rs`: a point with a plus sign or with
   something behind two digits, a second slash), and the answers are those of
   the naive reading, `oracle/src/naive_text.rs`.
+- `M ..`, of the form of `t`, and `C TEXT 00 STONES`, `C TEXT R` stand there too:
+  what the live entry reads a text with no slash and no comma as, one move, and
+  the stones text that the converter writes of it (request 13; R is 05 to 07, or
+  16, which is 22).
 - `g BLACKS WHITES TEXT` a segment written as text.
 - `i TEXT SIZE BLACKS WHITES` a text that reads as a line, `i TEXT ff` one that
   is too long. `I SIZE BLACKS WHITES TEXT` a line written as text. Sizes here

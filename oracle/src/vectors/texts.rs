@@ -1,6 +1,7 @@
 //! `texts.txt`: texts read as boards and lines, and both written as text. Texts
-//! that request 5 speaks of come last, under letters of their own, with the
-//! answers of the naive reading.
+//! with no slash and no comma are diagrams to the original (`c`). What requests 5
+//! and 13 speak of comes last, under letters of its own, with the answers of the
+//! naive reading.
 
 use super::{Records, SEED, byte, cells_field, list, mask};
 use crate::board::line::Line;
@@ -40,14 +41,22 @@ pub fn text() -> String {
     for _ in 0..60 {
         list_read(&mut out, &mut ours, &mut dice);
     }
-    out.comment("not the original's answers: texts of request 5, by the naive reading");
+    out.comment("not the original's answers: texts of requests 5 and 13, by the naive reading");
     out.0 + &ours.0
 }
 
 fn read_texts(out: &mut Records, ours: &mut Records, dice: &mut Dice) {
-    let mut read = |out: &mut Records, text: &str| match left_out::text(text.as_bytes()) {
-        true => read_by(ours, 'T', text, naive_text::read(text.as_bytes())),
-        false => read_by(out, 't', text, original::read(text)),
+    let mut read = |out: &mut Records, text: &str| {
+        let bytes = text.as_bytes();
+        if left_out::lone(bytes) {
+            read_by(out, 'c', text, original::read(text));
+            read_by(ours, 'M', text, naive_text::read(bytes));
+            converted(ours, text);
+        } else if left_out::typed(bytes) {
+            read_by(ours, 'T', text, naive_text::read(bytes));
+        } else {
+            read_by(out, 't', text, original::read(text));
+        }
     };
     out.comment("texts by hand");
     for text in texts::short_examples() {
@@ -60,6 +69,9 @@ fn read_texts(out: &mut Records, ours: &mut Records, dice: &mut Dice) {
     for text in texts::diagram_examples(&boards::game_of(dice, 30)) {
         read(out, &text);
     }
+    for cells in [[0; 225], [1; 225], [2; 225]] {
+        read(out, &texts::compact(&cells));
+    }
     out.comment("good texts, and texts with random changes");
     for i in 0..210 {
         let good = texts::good(dice);
@@ -71,12 +83,22 @@ fn read_texts(out: &mut Records, ours: &mut Records, dice: &mut Dice) {
     }
 }
 
-/// `t`: a text read as a board, by the original; `T`: by the naive reading.
+/// `t`: a text read as a board, by the original; `c`: as a diagram; `T` and `M`:
+/// as a board, by the naive reading.
 fn read_by(out: &mut Records, letter: char, text: &str, answer: Result<Cells, u8>) {
     let bytes = list(text.as_bytes());
     match answer {
         Ok(cells) => out.record(letter, &[bytes, byte(0), cells_field(&cells)]),
         Err(refusal) => out.record(letter, &[bytes, byte(refusal)]),
+    }
+}
+
+/// `C`: a text converted to stones text, by the naive reading.
+fn converted(out: &mut Records, text: &str) {
+    let bytes = list(text.as_bytes());
+    match naive_text::convert(text.as_bytes()) {
+        Ok(stones) => out.record('C', &[bytes, byte(0), list(stones.as_bytes())]),
+        Err(refusal) => out.record('C', &[bytes, byte(refusal)]),
     }
 }
 

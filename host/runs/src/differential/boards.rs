@@ -5,7 +5,7 @@ use super::judge::{Judge, Room};
 use oracle::boards::{self, Dice, SORTS};
 use oracle::cases::{BOARD_CASES, TURNING};
 use oracle::listing;
-use oracle::naive_text::write_diagram;
+use oracle::naive_text::{self, write_diagram};
 use oracle::original::Cells;
 use oracle::texts;
 
@@ -31,8 +31,14 @@ pub fn questions(judge: &mut Judge, cells: &Cells) {
     whole_board(judge, &given);
     around_points(judge, &given, cells);
     changes(judge, &given, cells);
-    let diagram = Given::text(write_diagram(cells).as_bytes());
-    judge.compare(Call::Read, &diagram, Room::Exact);
+    let diagram = write_diagram(cells);
+    let given = Given::text(diagram.as_bytes());
+    for call in [Call::Read, Call::ReadDiagram, Call::Convert] {
+        judge.compare(call, &given, Room::Exact);
+    }
+    if let Ok(stones) = naive_text::convert(diagram.as_bytes()) {
+        judge.compare(Call::Read, &Given::text(stones.as_bytes()), Room::Exact);
+    }
 }
 
 /// Asks with a room of any sort.
@@ -135,6 +141,9 @@ fn some_texts(judge: &mut Judge, cells: &Cells) {
         all.push(listing::text(dice));
     }
     for text in all {
-        ask(judge, Call::Read, &Given::text(&text));
+        let given = Given::text(&text);
+        for call in [Call::Read, Call::ReadDiagram, Call::Convert] {
+            ask(judge, call, &given);
+        }
     }
 }

@@ -111,10 +111,14 @@ pub enum Call {
     Second(Question),
     /// A whole game: the bytes handed over are its moves.
     Game,
+    /// A text as a diagram.
+    ReadDiagram,
+    /// A diagram to stones text.
+    Convert,
 }
 
 /// The functions' names, by [`Call::number`].
-pub const NAMES: [&str; 27] = [
+pub const NAMES: [&str; 29] = [
     "renju_read",
     "renju_to_string",
     "renju_to_pretty_string",
@@ -142,6 +146,8 @@ pub const NAMES: [&str; 27] = [
     "renju_second_forbidden_points",
     "renju_game",
     "renju_counts",
+    "renju_read_diagram",
+    "renju_convert",
 ];
 
 /// What a function may write to.
@@ -175,6 +181,8 @@ impl Call {
             Call::Second(question) => 19 + question.number(),
             Call::Game => 25,
             Call::Counts => 26,
+            Call::ReadDiagram => 27,
+            Call::Convert => 28,
         }
     }
 
@@ -195,7 +203,11 @@ impl Call {
     /// Whether the bytes handed over are no cells: a text, or a game's moves. Each of them counts
     /// by itself, and none has to be there.
     pub fn takes_a_list(&self) -> bool {
-        matches!(self, Call::Read | Call::Game)
+        self.takes_a_text() || *self == Call::Game
+    }
+
+    pub fn takes_a_text(&self) -> bool {
+        matches!(self, Call::Read | Call::ReadDiagram | Call::Convert)
     }
 
     /// What is asked, where both referees are asked it.
@@ -330,6 +342,8 @@ pub fn ask(call: &Call, given: &[u8], lent: &mut Lent) -> u32 {
         }
         Call::Second(question) => ask_second(question, given, lent),
         Call::Game => raw::renju_game(given, lent),
+        Call::ReadDiagram => raw::renju_read_diagram(given, lent),
+        Call::Convert => raw::renju_convert(given, lent),
     }
 }
 

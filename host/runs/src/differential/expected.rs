@@ -7,20 +7,24 @@ use super::games;
 use oracle::board::board::Board;
 use oracle::left_out::{self, Held};
 use oracle::naive;
+use oracle::naive_text;
 use oracle::original::{self, Cells, KINDS, player, point, to_cells, to_line};
 
 /// The low half of the word and the bytes written, or the refusal. Whether the bytes have room,
 /// refusal 13, is for the caller to see: it comes after all the others.
 pub type Expected = Result<(u16, Vec<u8>), u8>;
 
-/// What is not held to the original: a text that request 5 speaks of, or a verdict, a list or a
-/// game that meets an eye that completes a five, by request 6.
+/// What is not held to the original: a text that request 5 speaks of, a verdict, a list or a game
+/// that meets an eye that completes a five, by request 6; by request 13 a text with no slash and no
+/// comma at the live entry, and one with a slash or a comma as a diagram.
 #[derive(Debug, Clone, Copy, PartialEq, Eq)]
 pub enum LeftOut {
     Text,
     Verdict,
     List,
     Game,
+    Lone,
+    Diagram,
 }
 
 /// What a call must answer, and as what it is left out of the comparison with the original.
@@ -64,8 +68,8 @@ fn numbers(call: &Call) -> Numbers {
         Call::LineStartsOn {
             colour, kind, cell, ..
         } => (n.colour, n.kind, n.cell) = (Some(colour), Some(kind), Some(cell)),
-        Call::Read | Call::ToString | Call::ToPrettyString => {}
-        Call::EmptyPoints | Call::Counts | Call::Game => {}
+        Call::ToString | Call::ToPrettyString | Call::EmptyPoints | Call::Counts | Call::Game => {}
+        Call::Read | Call::ReadDiagram | Call::Convert => {}
     }
     n
 }
@@ -86,14 +90,14 @@ fn question_numbers(question: Question) -> Numbers {
 }
 
 /// "Order: text 1, 2, [..]; then 10 for size, 9, 8, 12, 10 for place, 11, 13." The original's own
-/// refusals, 3 to 7, come with the reading: `read` can meet none of those behind them but 13. Of a
-/// game "14 for more than 225 moves, before 8".
+/// refusals, 3 to 7, come with the reading: a text can meet none of those behind them but 22 and 13.
+/// Of a game "14 for more than 225 moves, before 8".
 fn refusal(call: &Call, given: &Given) -> Option<u8> {
     let n = numbers(call);
     let over = |number: Option<u8>, most: u8| number.is_some_and(|number| number > most);
     let wrong_colour = n.colour.is_some_and(|colour| colour != 1 && colour != 2);
     let wrong_number = over(n.view, 7) || over(n.distance, 14) || wrong_colour || over(n.kind, 7);
-    let (is_read, is_game) = (*call == Call::Read, *call == Call::Game);
+    let (is_read, is_game) = (call.takes_a_text(), *call == Call::Game);
     let wrong_move = is_game && given.bytes.iter().any(|&code| code > 224);
     let rules = [
         (1, is_read && given.bytes.len() > 4096),
@@ -116,7 +120,8 @@ fn refusal(call: &Call, given: &Given) -> Option<u8> {
 /// "unsound board, line or segment; cell bytes of other length or with a byte over 2".
 fn is_unsound(call: &Call, given: &Given) -> bool {
     match call {
-        Call::Read | Call::Game | Call::TurnPoint { .. } => false,
+        Call::TurnPoint { .. } => false,
+        _ if call.takes_a_list() => false,
         _ => match call.line() {
             Some(line) => !line.is_sound(),
             None => given.sound.is_none(),
@@ -139,8 +144,18 @@ fn value(call: &Call, given: &Given) -> (Expected, Option<LeftOut>) {
     match (*call, &given.sound) {
         (Call::Read, _) => {
             let read = left_out::read(&given.bytes).map(|cells| (225, cells.to_vec()));
-            let is_left_out = left_out::text(&given.bytes);
-            (read, is_left_out.then_some(LeftOut::Text))
+            let lone = left_out::lone(&given.bytes).then_some(LeftOut::Lone);
+            let typed = left_out::typed(&given.bytes).then_some(LeftOut::Text);
+            (read, lone.or(typed))
+        }
+        (Call::ReadDiagram, _) => {
+            let read = left_out::read_diagram(&given.bytes).map(|cells| (225, cells.to_vec()));
+            let is_left_out = !left_out::lone(&given.bytes);
+            (read, is_left_out.then_some(LeftOut::Diagram))
+        }
+        (Call::Convert, _) => {
+            let stones = naive_text::convert(&given.bytes);
+            (stones.map(|text| list(text.into_bytes(), 1)), None)
         }
         (Call::TurnPoint { code, view }, _) => {
             let turned = naive::turned_point(usize::from(view), usize::from(code));

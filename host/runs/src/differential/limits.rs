@@ -234,7 +234,9 @@ fn texts(judge: &mut Judge) {
     for text in &all {
         let given = Given::text(text);
         for room in rooms() {
-            judge.compare(Call::Read, &given, room);
+            for call in [Call::Read, Call::ReadDiagram, Call::Convert] {
+                judge.compare(call, &given, room);
+            }
         }
     }
 }

@@ -73,10 +73,11 @@ pub fn games(tally: &Tally) -> String {
 
 /// What was not held to the original.
 pub fn left_out(tally: &Tally) -> String {
-    let [texts, verdicts, lists, games] = tally.left_out;
+    let [texts, verdicts, lists, games, lone, diagrams] = tally.left_out;
     format!(
         "left out of the comparison with the original and held to the naive reading: {texts} texts, \
-         by request 5; {verdicts} verdicts, {lists} lists and {games} games, by request 6\n"
+         by request 5; {verdicts} verdicts, {lists} lists and {games} games, by request 6; by request 13 \
+         {lone} texts with no slash and no comma at the live entry, {diagrams} with one as diagrams\n"
     )
 }
 
@@ -122,8 +123,10 @@ pub fn difference(difference: &Difference) -> String {
 fn handed(call: &Call, given: &Given) -> String {
     let (bytes, length) = (&given.bytes, given.bytes.len());
     match (call, &given.sound) {
-        (Call::Read, _) => format!("text of {length} bytes: \"{}\"\n", bytes.escape_ascii()),
         (Call::Game, _) => format!("{length} moves: {bytes:?}\n"),
+        _ if call.takes_a_text() => {
+            format!("text of {length} bytes: \"{}\"\n", bytes.escape_ascii())
+        }
         (Call::TurnPoint { .. }, _) => String::new(),
         _ if call.line().is_some() => String::new(),
         (_, Some((cells, _))) => format!("cells:\n{}\n", write_diagram(cells)),

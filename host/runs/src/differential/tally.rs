@@ -9,7 +9,7 @@ pub struct Count {
     pub comparisons: u64,
     pub differences: u64,
     /// How often each refusal was to be given, by its number.
-    pub refusals: [u64; 15],
+    pub refusals: [u64; 23],
     pub smallest: Option<Difference>,
 }
 
@@ -18,9 +18,9 @@ pub struct Count {
 pub struct Tally {
     pub counts: [Count; NAMES.len()],
     pub games: Games,
-    /// How many questions were not held to the original, in the order of `LeftOut`: texts, verdicts,
-    /// lists and games. A question that both referees are asked counts once.
-    pub left_out: [u64; 4],
+    /// How many questions were not held to the original, in the order of `LeftOut`. A question that
+    /// both referees are asked counts once.
+    pub left_out: [u64; 6],
 }
 
 /// What the games that were not refused came to, by the reading that they are held to.

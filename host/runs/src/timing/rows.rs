@@ -277,7 +277,7 @@ impl Race for Changes {
     }
 }
 
-/// A plain diagram read.
+/// A plain diagram read: the converter's reader.
 pub struct Texts<'a> {
     boards: Vec<&'a Ready>,
     form: Form,
@@ -302,7 +302,7 @@ impl Race for Texts<'_> {
 
     fn agrees(&mut self, question: usize) -> bool {
         let ready = self.boards[question];
-        let answer = raw::renju_read(ready.text.as_bytes(), &mut self.cells);
+        let answer = raw::renju_read_diagram(ready.text.as_bytes(), &mut self.cells);
         let same = self.cells == ready.cells;
         answer == 225 && same && original::read(&ready.text) == Ok(self.cells)
     }
@@ -320,7 +320,7 @@ impl Race for Texts<'_> {
     fn ours(&mut self, question: usize, calls: usize) {
         let text = self.boards[question].text.as_bytes();
         for _ in 0..calls {
-            black_box(raw::renju_read(black_box(text), &mut self.cells));
+            black_box(raw::renju_read_diagram(black_box(text), &mut self.cells));
         }
     }
 }

@@ -9,11 +9,11 @@ use Rattle.replay_texts.proofs.reading.reads.Tie as tie
 array-borrow-prefix-out : tie.Need-array-borrow-prefix-out
 array-borrow-prefix-out c = search needs
 
-slice-aggregate-renju-read : tie.Need-slice-aggregate-renju-read
-slice-aggregate-renju-read c = sym (length-take-le _ _ (omega arith))
+slice-aggregate-read-by : tie.Need-slice-aggregate-read-by
+slice-aggregate-read-by c = sym (length-take-le _ _ (omega arith))
 
-renju-read-requires : tie.Need-renju-read-requires
-renju-read-requires c κs = search needs
+read-by-requires : tie.Need-read-by-requires
+read-by-requires c κs = search needs
 
 is-told-requires : tie.Need-is-told-requires
 is-told-requires c κs = search needs
@@ -26,7 +26,7 @@ reads-spec =
     tie.close
     (tie.spec
     array-borrow-prefix-out
-    slice-aggregate-renju-read
-    renju-read-requires
+    slice-aggregate-read-by
+    read-by-requires
     is-told-requires
     returns)

@@ -6,7 +6,7 @@ use lib.ListN.{length}
 use borrow.Author.Needs.{needs}
 use Rattle.text.specs.Reading.{readRefusal, readCells}
 use Rattle.text.proofs.Places.{trim-le}
-use Rattle.text.proofs.Said.{text-short, text-refused, read-stones, read-moves, read-diagram}
+use Rattle.text.proofs.Said.{text-short, text-refused, read-stones, read-moves}
 use Rattle.text.proofs.forms.read_cells.Statement.{statement}
 use Rattle.text.proofs.forms.read_cells.Tie as tie
 
@@ -47,12 +47,9 @@ returns-2 c =
     (f .find .ensures)
     (c .before .if2 .taken)
 
-find-requires-2 : tie.Need-find-requires-2
-find-requires-2 c κs = search needs
-
 moves-in-requires : tie.Need-moves-in-requires
 moves-in-requires c κs =
-    let t = c .before .before .before .before in
+    let t = c .before .before in
     let x = t .before .before in
     let s = now (x .before .before .args .text) in
     let e = ap length (t .trimmed .ensures) in
@@ -60,28 +57,13 @@ moves-in-requires c κs =
 
 returns-3 : tie.Need-returns-3
 returns-3 c =
-    let g = c .before .before in
-    let f = g .before .before in
+    let f = c .before .before in
     let t = f .before in
     let x = t .before .before in
     let s = now (x .before .before .args .text) in
     c .moves-in .ensures ∙ read-moves s (sym (x .text-refusal .ensures) ∙ t .before .if1 .left) _ (t .trimmed .ensures) _
     (f .find .ensures)
-    (g .before .if2 .left) _ (g .find2 .ensures) (c .before .if3 .taken)
-
-diagram-in-requires : tie.Need-diagram-in-requires
-diagram-in-requires c κs = search needs
-
-returns-4 : tie.Need-returns-4
-returns-4 c =
-    let g = c .before .before in
-    let f = g .before .before in
-    let t = f .before in
-    let x = t .before .before in
-    let s = now (x .before .before .args .text) in
-    c .diagram-in .ensures ∙ read-diagram s (sym (x .text-refusal .ensures) ∙ t .before .if1 .left) _ (t .trimmed .ensures) _
-    (f .find .ensures)
-    (g .before .if2 .left) _ (g .find2 .ensures) (c .before .if3 .left)
+    (c .before .if2 .left)
 
 pub read-cells-spec : {M : Type 1} → statement M
 read-cells-spec =
@@ -94,8 +76,5 @@ read-cells-spec =
     find-requires
     stones-in-requires
     returns-2
-    find-requires-2
     moves-in-requires
-    returns-3
-    diagram-in-requires
-    returns-4)
+    returns-3)
