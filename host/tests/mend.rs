@@ -1,8 +1,5 @@
 //! Hand-typed move lists mended.
 
-mod common;
-
-use common::Dice;
 use renju::raw::renju_mend;
 use renju::{Cells, Colour, MENDED, Mended, Point, Refusal, Slip, mend};
 
@@ -63,12 +60,10 @@ fn every_point() {
 /// with as many stones.
 #[test]
 fn what_is_kept() {
-    let mut dice = Dice(30);
-    for _ in 0..2000 {
-        let length = 2 + dice.below(60);
-        let moves: Vec<Point> = (0..length)
-            .map(|_| Point::from_code(dice.below(225) as u8).expect("a point"))
-            .collect();
+    for (step, length) in (1..225).flat_map(|step| [2, 9, 60, 230].map(|length| (step, length))) {
+        let code = |place: usize| (place * place * step + place) % 225;
+        let point = |place| Point::from_code(code(place) as u8).expect("a point");
+        let moves: Vec<Point> = (0..length).map(point).collect();
         let kept = mended(&written(&moves)).kept;
         assert!(moves.starts_with(&kept));
         let text = written(&kept);

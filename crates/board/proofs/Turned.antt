@@ -15,13 +15,12 @@ use Rattle.point.proofs.view_then.Reads as view-then
 use Rattle.point.proofs.view_back.Reads as view-back
 use Rattle.cells.specs.Cells.{Cells}
 use Rattle.cells.proofs.Given.{turn-ok}
-use Rattle.grid.specs.Lines.{Sound}
 use Rattle.grid.proofs.Lines.{length-cellsOf, cells-cellsOf}
-use Rattle.board.specs.Boards.{boardFrom, cells, boardOf, boardRefusal}
+use Rattle.board.specs.Boards.{cells, boardOf, boardRefusal}
 use Rattle.board.specs.Answers.{boardAnswer}
 use Rattle.board.specs.declared.board.Board.{Board}
 use Rattle.board.specs.declared.answer.BoardAnswer.{BoardAnswer}
-use Rattle.board.proofs.Given.{sound-in, board-sound, board-cells, made-refusal, made-board}
+use Rattle.board.proofs.Given.{whole-board, board-sound, board-cells, made-refusal, made-board}
 use Rattle.board.proofs.board.Board.turned.Reads as turned
 
 -- what `turned` answers, and the board in it
@@ -30,11 +29,6 @@ turnedAnswer v b = boardAnswer (first (boardRefusal b) (viewRefusal v)) (turnCel
 
 abbrev pub turnedBoard : ℕ → Board → Board
 turnedBoard v b = turnedAnswer v b .board
-
--- a board that is not refused is the board of its cells
-pub same-board : (b : Board) → boardRefusal b ≡ 0 → boardOf (cells b) ≡ b
-unfolding boardOf Sound
-same-board b e = ap boardFrom (sym (sound-in b e))
 
 module _ (v : ℕ) (b : Board) (hv : v < 8) (e : boardRefusal b ≡ 0) where
   none : first (boardRefusal b) (viewRefusal v) ≡ 0
@@ -65,7 +59,7 @@ boards-turn =
           turned-is w (turnedBoard v b) hw (turned-sound v b hv e)
           ∙ ap boardOf (ap (turnCells w) (turned-cells v b hv e) ∙ cells-turn .after v w (cells b) hv hw (length-cellsOf (b .lines)))
           ∙ sym (turned-is (thenView v w) b (then-lt v w hv hw) e);
-      still = λ b e. turned-is 0 b (omega arith) e ∙ ap boardOf (cells-turn .still (cells b) (length-cellsOf (b .lines))) ∙ same-board b e;
+      still = λ b e. turned-is 0 b (omega arith) e ∙ ap boardOf (cells-turn .still (cells b) (length-cellsOf (b .lines))) ∙ sym (whole-board b e);
     }
 
 -- ---- of the calls: a board was given back, and is asked next

@@ -19,9 +19,10 @@ use Rattle.rules.proofs.Refusals.{none-first}
 use Rattle.text.specs.Bytes.{blank, comma, digitZero, capitalA, space, trim, trimStart, trimEnd, keepEnd, has, parts, textRefusal}
 use Rattle.text.specs.Points.{columnOf, digitValue, numberOf, columnIn, rowIn, placeRefusal, itemRefusal, itemCode}
 use Rattle.text.specs.Points.{itemsRefusal, itemCodes, pointsRefusal, pointsIn, pointTextRefusal, listTextRefusal}
+use Rattle.text.proofs.Places.{parts-whole}
 use Rattle.display.specs.Texts.{digitText, numberText, pointText, itemText, pointItem, pointsText}
 use Rattle.display.proofs.Sizes.{point-short}
-use Rattle.display.proofs.Shown.{All, all-append, all-gather, all-text, only-one, number-has, parts-whole, parts-line}
+use Rattle.display.proofs.Shown.{All, all-append, all-gather, all-text, only-one, number-has, parts-line}
 
 -- ---- a point
 

@@ -25,13 +25,13 @@ use Rattle.text.specs.Bytes.{newline, blank, comma, dot, slash, smallO, smallX,
 use Rattle.text.specs.Bytes.{ontoFirst, textRefusal}
 use Rattle.text.specs.Reading.{countRefusal, sizeAt, diagramRefusal, diagramCells, letterCell, diagramTextRefusal, diagramTextCells}
 use Rattle.text.specs.Reading.{readRefusal}
-use Rattle.text.proofs.Places.{end-more}
+use Rattle.text.proofs.Places.{end-more, parts-whole}
 use Rattle.text.specs.Points.{pointTextRefusal}
 use Rattle.text.proofs.Named.{namesPoint, point-named}
 use Rattle.text.proofs.Lone.{lone-refusal}
 use Rattle.display.specs.Texts.{letterOr, lineText, rowText, plainRow, diagramOf}
 use Rattle.display.proofs.Sizes.{diagram-length}
-use Rattle.display.proofs.Shown.{All, all-append, all-gather, all-has, all-text, letter-has, row-has, parts-whole, parts-line}
+use Rattle.display.proofs.Shown.{All, all-append, all-gather, all-has, all-text, letter-has, row-has, parts-line}
 use Rattle.display.proofs.Shown.{letters, dense-cells}
 
 -- ---- its bytes and its lines

@@ -79,16 +79,6 @@ number-has P digit m h =
 
 -- ---- the lines of a text
 
-pub parts-whole : (d : ℕ) (l : List ℕ) → has d l ≡ false → parts d l ≡ l ∷ []
-unfolding has parts ontoFirst
-parts-whole d [] h = refl
-parts-whole d (b ∷ l) h = go (eqb b d) (parts-whole d l) h
-  where
-    go : (t : Bool) → (has d l ≡ false → parts d l ≡ l ∷ []) → (t || has d l) ≡ false
-        → cond t ([] ∷ parts d l) (ontoFirst b (parts d l)) ≡ (b ∷ l) ∷ []
-    go true r e = absurd (no-true (sym e))
-    go false r e = rw (r e)
-
 pub parts-line : (d : ℕ) (l r : List ℕ) → has d l ≡ false → eqb d d ≡ true → parts d (l ++ d ∷ r) ≡ l ∷ parts d r
 unfolding has parts ontoFirst
 parts-line d [] r h z = rw z

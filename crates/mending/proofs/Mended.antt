@@ -1,7 +1,7 @@
 -- What holds of every mended list (document 02, No. 12): no point twice; mended again all of it is kept; the live entry reads it as a board
 -- with as many stones. Assumes nothing.
 use mathlib.Core.Path.{_≡_, refl, sym, ap, _∙_}
-use mathlib.Core.Bool.{true, false, not, _||_}
+use mathlib.Core.Bool.{Bool, true, false, not, _||_}
 use mathlib.Core.List.{List, [], _∷_, _++_}
 use Prim.Native.Nat.{ℕ, suc, _+_, _*_, _≤_, _<_}
 use native.Mathlib.Omega.{arith}
@@ -82,42 +82,24 @@ again [] o h k = absurd (omega arith)
 again (c ∷ codes) o h k =
     record { read = not-refused c codes o h; whole = all-kept c codes o h; clean = none-slips c codes o h }
 
--- The live entry reads the kept list as the board of its moves, with a stone for each. (A lone point, which has no comma, it does not read as
--- a move.)
+-- The live entry reads the kept list as the board of its moves, with a stone for each.
 pub record ReadLive (kept : List ℕ) : Type 0 where
   pub read : readRefusal (pointsText kept) ≡ 0
   pub board : readCells (pointsText kept) ≡ movesCells kept
   pub stones : countOf 225 (λ p. not (isEmpty (getD (readCells (pointsText kept)) p 0))) ≡ length kept
 
--- a list of two or more has a comma
-has-comma : (c d : ℕ) (codes : List ℕ) → has comma (pointsText (c ∷ d ∷ codes)) ≡ true
-unfolding pointsText itemText has
-has-comma c d codes =
-    let item = pointItem (c ∷ d ∷ codes) in
-    let rest = gather (length codes) (λ i. item (suc (suc i))) in
-    ap (has comma) (gather-front (suc (length codes)) item)
-    ∙ has-append comma (item 0) (gather (suc (length codes)) (λ i. item (suc i)))
-    ∙ ap (λ b. has comma (item 0) || b) (ap (has comma) (gather-front (length codes) (λ i. item (suc i))))
-    ∙ or-true (has comma (item 0))
-  where
-    or-true : (a : _) → (a || true) ≡ true
-    or-true true = refl
-    or-true false = refl
-
-live : (kept : List ℕ) → Once kept → Points kept → 1 < length kept → ReadLive kept
-unfolding readRefusal readCells formRefusal movesIn text
+live : (kept : List ℕ) → Once kept → Points kept → 0 < length kept → ReadLive kept
+unfolding readRefusal readCells formRefusal movesIn first text
 live [] o h k = absurd (omega arith)
-live (c ∷ []) o h k = absurd (omega arith)
-live (c ∷ d ∷ codes) o h k =
-    let t = pointsText (c ∷ d ∷ codes) in
-    let comma-in = has-comma c d codes in
-    let slash-out = no-slash c (d ∷ codes) o h in
-    let trims = list-trim c (d ∷ codes) h in
-    let board : readCells t ≡ movesCells (c ∷ d ∷ codes) = rw (slash-out, comma-in, trims) (ap movesCells (list-back c (d ∷ codes) h)) in
+live (c ∷ codes) o h k =
+    let t = pointsText (c ∷ codes) in
+    let slash-out = no-slash c codes o h in
+    let trims = list-trim c codes h in
+    let board : readCells t ≡ movesCells (c ∷ codes) = rw (slash-out, trims) (ap movesCells (list-back c codes h)) in
     record {
-      read = rw (slash-out, comma-in, trims, list-good c (d ∷ codes) h, not-refused c (d ∷ codes) o h);
+      read = rw (slash-out, trims, list-good c codes h, not-refused c codes o h);
       board = board;
-      stones = rw board (stones-played (c ∷ d ∷ codes) o h);
+      stones = rw board (stones-played (c ∷ codes) o h);
     }
 
 -- ---- THE THEOREMS, of every text
@@ -130,7 +112,7 @@ module _ (s : List ℕ) where
   pub mended-again : 0 < length (keptOf s) → MendedAgain (keptOf s)
   mended-again k = again (keptOf s) (kept-none-twice s) (kept-points s) k
 
-  pub read-live : 1 < length (keptOf s) → ReadLive (keptOf s)
+  pub read-live : 0 < length (keptOf s) → ReadLive (keptOf s)
   read-live k = live (keptOf s) (kept-none-twice s) (kept-points s) k
 
   -- whatever its length, as many stones are on the board of its moves

@@ -17,6 +17,7 @@ use Rattle.rules.proofs.Logic.{decide}
 use Rattle.lent.specs.Lists.{zeros, keptTo, keptIn}
 use Rattle.lent.specs.Slices.{findAt}
 use Rattle.lent.proofs.Laws.{length-zeros, take-padded, wrote-held}
+use Rattle.cells.specs.Cells.{codesRefusal}
 use Rattle.text.specs.Bytes.{comma, trim, has, parts, textRefusal}
 use Rattle.text.specs.Points.{itemRefusal, itemCode, itemsRefusal, leadingCodes, pointsRefusal, leadingIn, slipIn}
 use Rattle.text.specs.Points.{leadingAnswer, listFound, leadingFound}
@@ -25,7 +26,8 @@ use Rattle.text.proofs.Places.{has-yes, has-no}
 use Rattle.text.proofs.Said.{item-small}
 use Rattle.display.proofs.PointBack.{Points}
 use Rattle.display.proofs.Writing.{put}
-use Rattle.mending.specs.Mending.{slipOf, keptFrom, reasonFrom, numberOfSlip, keptOf, reasonOf, onceFrom, onceOf, mendedAnswer, mendedFound}
+use Rattle.mending.specs.Mending.{slipOf, keptFrom, reasonFrom, numberOfSlip, keptOf, reasonOf, onceFrom, onceOf}
+use Rattle.mending.specs.Mending.{twoLines, mendedText, mendedAnswer, mendedFound}
 use Rattle.mending.specs.declared.kept.Mended.{Mended}
 use Rattle.mending.proofs.Once.{Once, once-kept, once-points, once-front, once-short, points-pass}
 
@@ -177,6 +179,41 @@ pub text-found : (s : List ℕ) (refused : ℕ) (m : Mended) → refused ≡ tex
 unfolding mendedFound
 text-found s refused m e n a =
     a ∙ ap (λ (x : ℕ). mendedAnswer x 0 0 []) e ∙ rw (ne-eqb (textRefusal s) 0 (λ z. n (e ∙ z)))
+
+-- ---- what is given back by value, and its two lines
+
+module _ (s : List ℕ) (m : Mended) (e : m ≡ mendedFound s) where
+  pub mended-refusal : m .refused ≡ textRefusal s
+  unfolding mendedFound mendedAnswer
+  mended-refusal = ap (λ (x : Mended). x .refused) e ∙ go (decide (eqb (textRefusal s) 0))
+    where
+      go : (eqb (textRefusal s) 0 ≡ true) ⊎ (eqb (textRefusal s) 0 ≡ false) → mendedFound s .refused ≡ textRefusal s
+      go (inl t) = rw t (sym (eqb-true (textRefusal s) 0 t))
+      go (inr t) = rw t
+
+  module _ (z : m .refused ≡ 0) where
+    is : m ≡ mendedAnswer 0 (numberOfSlip (keptOf s) (reasonOf s)) (reasonOf s) (keptOf s)
+    unfolding mendedFound
+    is = e ∙ rw (eq-eqb (textRefusal s) 0 (sym mended-refusal ∙ z))
+
+    pub mended-moves : (part : List ℕ) → part ≡ take (m .len) (m .codes) → part ≡ keptOf s
+    unfolding mendedAnswer
+    mended-moves part k =
+        k ∙ ap₂ take (ap (λ (x : Mended). x .len) is) (ap (λ (x : Mended). x .codes) is) ∙ take-padded 225 (keptOf s)
+
+    pub mended-lines : (part : List ℕ) → part ≡ take (m .len) (m .codes) → twoLines part (m .item) (m .reason) ≡ mendedText s
+    unfolding mendedAnswer mendedText
+    mended-lines part k =
+        ap (λ (l : List ℕ). twoLines l (m .item) (m .reason)) (mended-moves part k)
+        ∙ ap₂ (twoLines (keptOf s)) (ap (λ (x : Mended). x .item) is) (ap (λ (x : Mended). x .reason) is)
+
+    -- they are points, at most 225
+    pub moves-good : (part : List ℕ) → part ≡ take (m .len) (m .codes) → (length part ≤ 225) × (codesRefusal part ≡ 0)
+    moves-good part k =
+        let same = mended-moves part k in (
+          omega (arith, ap length same, kept-short s),
+          ap codesRefusal same ∙ points-pass (keptOf s) (kept-none-twice s) (kept-points s),
+        )
 
 -- ---- the loop that looks for the first repeat: the codes before place i are kept; `part` is these, `at` the place of code i in them
 

@@ -1,33 +1,31 @@
 -- Games to SGF and back (document 02, No. 10). Stated of what the contracts of `to_sgf` and `from_sgf` cite: `sgfText` is what the first
 -- writes, `sgfMoves` what the second writes, each where its refusal is 0. Assumes nothing.
 use mathlib.Core.Path.{_≡_, refl, ap, sym, subst, _∙_}
-use mathlib.Core.Bool.{Bool, true, false, not, _&&_, cond}
+use mathlib.Core.Bool.{Bool, true, false, _&&_, cond}
 use mathlib.Core.List.{List, [], _∷_, _++_}
-use Prim.Native.Nat.{ℕ, zero, suc, _+_, _-_, _*_, _/_, _%_, _≤_, _<_}
-use native.Mathlib.Nat.{not-suc-le-zero}
+use Prim.Native.Nat.{ℕ, zero, suc, _+_, _-_, _/_, _%_, _≤_, _<_}
 use native.Mathlib.Omega.{arith}
-use lib.Dec.{T, eqb, leb, ltb, leb→le, le→leb, lt→ltb, ltb→lt}
+use lib.Dec.{eqb, leb, ltb, le→leb, lt→ltb}
 use lib.ListN.{length, getD, drop}
 use lib.Seq.{drop-drop}
-use borrow.Author.Tests.{eq-eqb, ne-eqb, eqb-true, le-leb, lt-ltb, ltb-true, leb-true}
+use borrow.Author.Tests.{eq-eqb, ne-eqb, le-leb, lt-ltb, ltb-true, leb-true}
 use Rattle.rules.specs.Refusals.{textLong, textHigh, manyMoves, outsideSubset, unless, first}
 use Rattle.rules.specs.Tools.{allBelow}
 use Rattle.rules.specs.Cases.{same}
-use Rattle.rules.specs.Point.{xOf, yOf, codeOf}
-use Rattle.rules.proofs.Logic.{T-true, true-T, no-true, and-intro, all-intro}
+use Rattle.rules.proofs.Logic.{T-true, no-true, all-intro}
 use Rattle.rules.proofs.Refusals.{first-none, none-first, passed, pass}
 use Rattle.lent.specs.Slices.{firstAt}
 use Rattle.cells.specs.Cells.{movesRefusal}
 use Rattle.cells.proofs.Given.{moves-in}
 use Rattle.text.specs.Bytes.{smallA, smallO, space, has, textRefusal}
 use Rattle.sgf.specs.Tokens.{openBracket, closeBracket, capital, valueLength, nameLength, tokenLength, tokensOf, tokenAt, joined, spread}
-use Rattle.sgf.specs.Games.{opens, closes, node, gameName, gameValue, sizeName, sizeValue, mover, pointValue, frontTokens, moveTokens}
+use Rattle.sgf.specs.Games.{opens, closes, node, gameName, gameValue, sizeName, sizeValue, mover, pointValue, moveTokens}
 use Rattle.sgf.specs.Games.{gameTokens, sgfText, movesText, moveText, letterNo, isPoint, pointOf, areThree, isFront, isMove}
 use Rattle.sgf.specs.Games.{movesFrom, behindMoves, isEnd, isGame, movesIn, gameRefusal, sgfRefusal, sgfMoves}
 use Rattle.sgf.proofs.Tokens.{same-eq}
 use Rattle.sgf.proofs.Games.{point-length, point-brackets, point-letters, move-node, move-name, move-value, both, three}
 use Rattle.sgf.proofs.Texts.{frontText, moves-none, moves-cons, text-parts, text-length}
-use Rattle.sgf.proofs.Spaces.{WhiteSpace, touch, Token, Tokens, spaces-around, joined-tokens, noGap, no-gap, no-space}
+use Rattle.sgf.proofs.Spaces.{WhiteSpace, Token, Tokens, spaces-around, joined-tokens, noGap, no-gap, no-space}
 use Rattle.sgf.proofs.Spaces.{one, more}
 
 -- ---- letters and points

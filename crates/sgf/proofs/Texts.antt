@@ -8,9 +8,9 @@ use native.Mathlib.Numerals.{add-one}
 use native.Mathlib.Omega.{arith}
 use lib.ListN.{length, getD, take, length-append}
 use Rattle.lent.specs.Lists.{keptTo, keptIn, Wrote, Held, zeros}
-use Rattle.lent.proofs.Laws.{wrote-none, wrote-keep, wrote-all, wrote-as, wrote-same, wrote-held, length-zeros}
+use Rattle.lent.proofs.Laws.{wrote-none, wrote-keep, wrote-all, wrote-as, wrote-held}
 use Rattle.sgf.specs.Tokens.{joined}
-use Rattle.sgf.specs.Games.{closes, frontTokens, mover, pointValue, moveTokens, gameTokens, sgfText, movesText, moveText}
+use Rattle.sgf.specs.Games.{closes, mover, pointValue, moveTokens, gameTokens, sgfText, movesText, moveText}
 
 -- ---- tokens one behind the other
 

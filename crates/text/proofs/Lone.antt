@@ -11,10 +11,11 @@ use Rattle.rules.specs.declared.Player.the-variants.{Black}
 use Rattle.rules.proofs.Logic.{no-true}
 use Rattle.lent.specs.Lists.{zeros}
 use Rattle.cells.specs.Cells.{puts, movesCells}
-use Rattle.text.specs.Bytes.{comma, slash, space, trimStart, trimEnd, keepEnd, trim, has, parts, ontoFirst, textRefusal}
+use Rattle.text.specs.Bytes.{comma, slash, space, trimStart, trimEnd, keepEnd, trim, has, parts, textRefusal}
 use Rattle.text.specs.Points.{columnIn, rowIn, itemRefusal, itemCode, itemsRefusal, itemCodes}
 use Rattle.text.specs.Points.{pointsRefusal, pointsIn, pointTextRefusal}
 use Rattle.text.specs.Reading.{movesIn, formRefusal, readRefusal, readCells}
+use Rattle.text.proofs.Places.{parts-whole}
 
 -- ---- a trimmed text, trimmed again, is the same
 
@@ -86,12 +87,6 @@ trim-without : (d : ℕ) (s : List ℕ) → has d s ≡ false → has d (trim s)
 unfolding trim
 trim-without d s h = end-without d (trimStart s) (start-without d s h)
 
--- .. so that there is one part
-one-part : (d : ℕ) (s : List ℕ) → has d s ≡ false → parts d s ≡ s ∷ []
-unfolding has parts ontoFirst
-one-part d [] h = refl
-one-part d (b ∷ s) h = rw (neither (eqb b d) (has d s) h .0, one-part d s (neither (eqb b d) (has d s) h .1))
-
 -- ---- "text with no "/" and no "," is now one move" (document 02)
 
 none-behind : (n : ℕ) → first n 0 ≡ n
@@ -108,7 +103,7 @@ item-trimmed s = let e = trim-again s in (rw e, rw e)
 
 module _ (s : List ℕ) (p : has slash s ≡ false) (q : has comma s ≡ false) where
   one-item : parts comma (trim (trim s)) ≡ trim s ∷ []
-  one-item = ap (parts comma) (trim-again s) ∙ one-part comma (trim s) (trim-without comma s q)
+  one-item = ap (parts comma) (trim-again s) ∙ parts-whole comma (trim s) (trim-without comma s q)
 
   item-alone : itemsRefusal (trim s ∷ []) ≡ itemRefusal s
   unfolding itemsRefusal

@@ -10,7 +10,7 @@ use lib.Dec.{eqb, leb}
 use lib.ListN.{length, getD, take, drop, length-drop, length-take}
 use lib.Seq.{drop-drop, take-suc, length-take-le}
 use borrow.Author.Tests.{leb-true, leb-false}
-use Rattle.rules.proofs.Logic.{decide}
+use Rattle.rules.proofs.Logic.{decide, no-true}
 use Rattle.lent.specs.Slices.{firstAt, findAt}
 use Rattle.text.specs.Bytes.{space, trimStart, trimEnd, keepEnd, trim, has, before, behind, parts, ontoFirst}
 use Rattle.text.specs.Bytes.{leading}
@@ -118,6 +118,17 @@ behind-drop d (b ∷ s) = go (eqb b d) (behind-drop d s)
     go : (t : Bool) → behind d s ≡ drop (suc (findAt d s)) s → cond t s (behind d s) ≡ drop (suc (cond t 0 (suc (findAt d s)))) (b ∷ s)
     go true r = refl
     go false r = r
+
+-- a text without the byte is one part
+pub parts-whole : (d : ℕ) (l : List ℕ) → has d l ≡ false → parts d l ≡ l ∷ []
+unfolding has parts ontoFirst
+parts-whole d [] h = refl
+parts-whole d (b ∷ l) h = go (eqb b d) (parts-whole d l) h
+  where
+    go : (t : Bool) → (has d l ≡ false → parts d l ≡ l ∷ []) → (t || has d l) ≡ false
+        → cond t ([] ∷ parts d l) (ontoFirst b (parts d l)) ≡ (b ∷ l) ∷ []
+    go true r e = absurd (no-true (sym e))
+    go false r e = rw (r e)
 
 -- the last part, and a part before another
 pub parts-last : (d : ℕ) (s : List ℕ) → length s ≤ findAt d s → parts d s ≡ take (findAt d s) s ∷ []

@@ -37,9 +37,8 @@ stonesIn s = stonesCells (pointsIn (blackList s)) (pointsIn (whiteList s))
 unfoldable pub movesIn : List ℕ → List ℕ
 movesIn s = movesCells (pointsIn s)
 
--- ---- the converter's reader (document 02: "a separate converter reads them by document 01's diagram rules")
-
--- ---- "Diagram: 15 lines parted by byte 10, from row 15 down, spaces dropped, 15 cells each"
+-- ---- "Diagram: 15 lines parted by byte 10, from row 15 down, spaces dropped, 15 cells each": read by the converter alone (document 02: "a
+-- separate converter reads them by document 01's diagram rules")
 
 -- how many cells line k has
 unfoldable pub sizeAt : List (List ℕ) → ℕ → ℕ

@@ -13,7 +13,7 @@ use oracle::boards::Dice;
 use renju::raw;
 use std::fmt::Write;
 
-/// The functions' names, by [`Call::number`].
+/// The names of the functions, in the order of [`Tally::counts`].
 pub const NAMES: [&str; 2] = ["renju_to_sgf", "renju_from_sgf"];
 
 /// A function with what it is handed.

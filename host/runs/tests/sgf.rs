@@ -81,9 +81,11 @@ fn a_variation_let_through_is_found() {
 fn a_space_inside_a_value_is_found() {
     let wrong = |call: &Call, out: &mut [u8]| {
         instead(call, out, |text| {
-            if text.get(6..8) == Some(&b" 4"[..]) || text.get(15..17) == Some(&b"[ "[..]) {
-                text.retain(|&byte| byte != b' ');
-            }
+            let mut inside = false;
+            text.retain(|&byte| {
+                inside = byte == b'[' || (inside && byte != b']');
+                !(inside && byte.is_ascii_whitespace())
+            });
         })
     };
     is_found(&wrong, "renju_from_sgf");

@@ -95,17 +95,26 @@ fn damage(dice: &mut Dice, text: &mut Vec<u8>) {
         2 => dice.pick(b"()[];\\GMSZBW4150"),
         _ => b'`' + dice.below(18) as u8,
     };
-    match dice.below(8) {
+    match dice.below(9) {
         0..3 => text.insert(place, byte),
         3 if place < length => drop(text.remove(place)),
         4 => text.truncate(place),
         5 => drop(text.splice(place..place, dice.pick(&WORDS).bytes())),
         6 if place + 1 < length => text.swap(place, place + 1),
         7 if place % 50 == 0 => text.extend(vec![byte; 4097]),
+        8 => other_name(&mut text[place..]),
         _ => {
             if let Some(old) = text.get_mut(place) {
                 *old = byte;
             }
         }
+    }
+}
+
+/// The first name of a move, B or W, made the other.
+fn other_name(text: &mut [u8]) {
+    let name = text.iter_mut().find(|byte| b"BW".contains(byte));
+    if let Some(name) = name {
+        *name = if *name == b'B' { b'W' } else { b'B' };
     }
 }

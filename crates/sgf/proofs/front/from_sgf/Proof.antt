@@ -1,10 +1,7 @@
 -- `sgf::front::from_sgf` meets its contract: refused as any text is, or its moves are found, then handed out. Assumes nothing.
-use mathlib.Core.Path.{_≡_, refl, ap, ap₂, sym, _∙_}
-use mathlib.Core.Bool.{Bool, _&&_}
-use Prim.Native.Nat.{ℕ, _≤_}
+use mathlib.Core.Path.{ap, ap₂, sym, _∙_}
 use native.Mathlib.Omega.{arith}
 use denote.Ref.{now}
-use lib.Dec.{leb}
 use lib.ListN.{length}
 use Rattle.rules.specs.Refusals.{first, unless}
 use Rattle.lent.proofs.Laws.{held-le, held-as, turned-down}

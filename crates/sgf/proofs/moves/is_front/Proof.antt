@@ -1,5 +1,5 @@
 -- `sgf::moves::is_front` meets its contract: three tokens, and three behind them. Assumes nothing.
-use mathlib.Core.Path.{_≡_, ap, ap₂, sym, _∙_}
+use mathlib.Core.Path.{ap, ap₂, sym, _∙_}
 use mathlib.Core.Bool.{Bool, _&&_}
 use denote.Ref.{now}
 use Rattle.sgf.specs.Tokens.{tokensOf}

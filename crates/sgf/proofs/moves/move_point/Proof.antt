@@ -1,5 +1,5 @@
 -- `sgf::moves::move_point` meets its contract: the point of the third token. Assumes nothing.
-use mathlib.Core.Path.{_≡_, ap, _∙_}
+use mathlib.Core.Path.{ap, _∙_}
 use denote.Ref.{now}
 use Rattle.sgf.specs.Games.{isPoint, pointOf}
 use Rattle.sgf.proofs.Tokens.{third-at}

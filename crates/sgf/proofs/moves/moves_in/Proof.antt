@@ -1,5 +1,5 @@
 -- `sgf::moves::moves_in` meets its contract: n moves are kept, and the rest has the others. Assumes nothing.
-use mathlib.Core.Path.{_≡_, refl, ap, sym, _∙_}
+use mathlib.Core.Path.{refl, ap, sym, _∙_}
 use native.Mathlib.Omega.{arith}
 use denote.Ref.{now}
 use lib.ListN.{length}

@@ -1,5 +1,4 @@
 -- `sgf::token::value_length` meets its contract: a bracket is found before the end, or there is none. Assumes nothing.
-use mathlib.Core.Path.{_≡_}
 use native.Mathlib.Omega.{arith}
 use denote.Ref.{now}
 use borrow.Author.Needs.{needs}

@@ -1,6 +1,5 @@
 -- `sgf::value::is_point` meets its contract: what it calls says it. Assumes nothing.
-use mathlib.Core.Path.{_≡_, ap, _∙_}
-use denote.Ref.{now}
+use mathlib.Core.Path.{ap, _∙_}
 use borrow.Author.Needs.{needs}
 use Rattle.sgf.specs.Games.{letterNo, isPoint}
 use Rattle.sgf.proofs.value.is_point.Statement.{statement}

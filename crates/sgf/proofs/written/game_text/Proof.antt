@@ -1,11 +1,9 @@
 -- `sgf::written::game_text` meets its contract: the front, the moves, the end, one behind the other. Assumes nothing.
-use mathlib.Core.Path.{_≡_}
 use native.Mathlib.Omega.{arith}
 use denote.Ref.{now}
-use lib.ListN.{length}
 use Rattle.lent.specs.Lists.{zeros, Wrote}
 use Rattle.lent.proofs.Laws.{wrote-same, length-zeros}
-use Rattle.sgf.specs.Games.{closes, movesText}
+use Rattle.sgf.specs.Games.{closes}
 use Rattle.sgf.proofs.Texts.{frontText, kept, moves-length, text-held}
 use borrow.Author.Needs.{needs}
 use Rattle.sgf.proofs.written.game_text.Statement.{statement}

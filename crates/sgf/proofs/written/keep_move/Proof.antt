@@ -1,6 +1,6 @@
 -- `sgf::written::keep_move` meets its contract: its six bytes are kept. Assumes nothing.
 use mathlib.Core.Path.{ap}
-use mathlib.Core.List.{List, [], _∷_}
+use mathlib.Core.List.{[], _∷_}
 use Prim.Native.Nat.{ℕ, _+_, _-_, _/_, _%_}
 use native.Mathlib.Omega.{arith}
 use Rattle.lent.proofs.Laws.{wrote-as}

@@ -1,7 +1,6 @@
 -- `sgf::written::keep_moves` meets its contract: after i turns the first i moves are written. Assumes nothing.
-use mathlib.Core.Path.{_≡_, ap, sym, _∙_}
-use mathlib.Core.List.{List}
-use Prim.Native.Nat.{ℕ, _+_, _*_, _-_, _≤_}
+use mathlib.Core.Path.{ap, sym}
+use Prim.Native.Nat.{_-_, _≤_}
 use native.Mathlib.Omega.{arith}
 use denote.Ref.{now}
 use lib.ListN.{length, getD, take}
@@ -10,7 +9,6 @@ use Rattle.lent.specs.Lists.{Wrote}
 use Rattle.lent.proofs.Laws.{wrote-none, wrote-all, wrote-as, wrote-same}
 use Rattle.sgf.specs.Games.{movesText, moveText}
 use Rattle.sgf.proofs.Texts.{moves-none, moves-length, text-more}
-use borrow.Author.Needs.{needs}
 use Rattle.sgf.proofs.written.keep_moves.Statement.{statement}
 use Rattle.sgf.proofs.written.keep_moves.Tie as tie
 
