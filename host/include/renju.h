@@ -51,8 +51,8 @@ extern "C" {
 #define RENJU_REPORT 228  /* the report of a game: number, reason, winner, cells */
 #define RENJU_RECORD 232  /* a stored game in tagged form has at most so many bytes */
 #define RENJU_SGF 1364    /* a game's SGF text has at most so many bytes */
-
 #define RENJU_MENDED 1152 /* room enough for the two lines of any mended list */
+#define RENJU_LINE 11     /* a line of at most six attacks has at most so many points */
 
 /* Why a question was refused. */
 enum renju_refusals {
@@ -76,6 +76,7 @@ enum renju_refusals {
     RENJU_NOT_NEXT = 18,     /* a move whose number is not next */
     RENJU_APART_LISTS = 19,  /* two lists of which neither begins the other */
     RENJU_OUTSIDE_SUBSET = 20, /* an SGF text outside the subset that is read */
+    RENJU_LIMIT = 21,          /* a limit of attacks outside 1 to 6 */
     RENJU_ONE_SIDED = 22       /* a side without stones, which stones text can't say */
 };
 
@@ -307,6 +308,18 @@ uint32_t renju_from_sgf(const uint8_t *text, size_t text_len, uint8_t *out, size
  * already; the second that item's number, from 1, and its reason (3 or 4 of the point, 1 for a
  * repeat), or `0 0`. RENJU_MENDED bytes are room enough. Refusals 1, 2, 13. */
 uint32_t renju_mend(const uint8_t *text, size_t text_len, uint8_t *out, size_t out_len);
+
+/* Hints, a win by fours: attacks of one side's, the first point, the third and so on, each a four or a
+ * five, and the replies that they force, to an end that wins against every reply. */
+
+/* Whether a line of codes is such a one for the colour, to move: 1 or 0. Refusals 9, 8, 12. */
+uint32_t renju_win_check(const uint8_t *cells, size_t cells_len, uint8_t colour,
+                         const uint8_t *line, size_t line_len);
+
+/* The first such line of at most limit attacks, 1 to 6, by comparing codes from the front: how many
+ * points, 0 for no line; a code each. Refusals 9, 12, 21, 13 for less room than RENJU_LINE. */
+uint32_t renju_win_plan(const uint8_t *cells, size_t cells_len, uint8_t colour, uint8_t limit,
+                        uint8_t *out, size_t out_len);
 
 #ifdef __cplusplus
 }

@@ -72,6 +72,11 @@
 //!
 //! [`mend`] keeps the leading moves of a hand-typed list, and says which item slips and why.
 //!
+//! # Hints
+//!
+//! [`Cells::win_by_fours`] finds a line of fours that wins against every reply, and
+//! [`Cells::is_win_by_fours`] tells whether a list of points is one.
+//!
 //! # Refusals
 //!
 //! What can be refused is a `Result` with a [`Refusal`], which has the number that the Rattle and
@@ -90,6 +95,7 @@ mod cells;
 mod colour;
 pub mod feed;
 mod game;
+mod hint;
 mod kind;
 mod line;
 mod list;
@@ -110,6 +116,7 @@ mod view;
 pub use cells::{Cells, Counts};
 pub use colour::Colour;
 pub use game::{Fault, Game, Reason, Report};
+pub use hint::{Limit, WinLine};
 pub use kind::Kind;
 pub use line::Line;
 pub use list::{Crosses, List, Points, Rows, RowsOn};
@@ -208,6 +215,14 @@ pub const MOVES: usize = 225;
 /// assert_eq!(out[..3], [3, 1, 0]);
 /// ```
 pub const REPORT: usize = 228;
+
+/// How many points a line of at most six attacks can have.
+///
+/// ```
+/// let mut out = [0; renju::LINE];
+/// assert_eq!(renju::raw::renju_win_plan(&[0; 225], 1, 6, &mut out), 0);
+/// ```
+pub const LINE: usize = 11;
 
 /// How many bytes a stored game in tagged form can have: 7, and 225 moves.
 ///

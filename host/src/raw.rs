@@ -268,6 +268,21 @@ mod ffi {
             out_len: usize,
         ) -> u32;
         pub fn renju_mend(text: *const u8, text_len: usize, out: *mut u8, out_len: usize) -> u32;
+        pub fn renju_win_check(
+            cells: *const u8,
+            cells_len: usize,
+            colour: u8,
+            line: *const u8,
+            line_len: usize,
+        ) -> u32;
+        pub fn renju_win_plan(
+            cells: *const u8,
+            cells_len: usize,
+            colour: u8,
+            limit: u8,
+            out: *mut u8,
+            out_len: usize,
+        ) -> u32;
     }
 }
 
@@ -791,6 +806,8 @@ pub fn renju_tagged_view(record: &[u8]) -> u32 {
 }
 
 /// How many stones each side has: 256 times White's plus Black's. Refusal 9.
+/// Whether a line of points is a sure win by fours for the colour, to move: 1
+/// or 0. Refusals 9, 8, 12.
 ///
 /// ```
 /// # use renju::raw::*;
@@ -888,4 +905,48 @@ pub fn renju_from_sgf(text: &[u8], out: &mut [u8]) -> u32 {
 /// ```
 pub fn renju_mend(text: &[u8], out: &mut [u8]) -> u32 {
     unsafe { ffi::renju_mend(text.as_ptr(), text.len(), out.as_mut_ptr(), out.len()) }
+}
+
+/// assert_eq!(renju_read(b"A1/F8,G8,H8", &mut cells), 225);
+/// // E8 (67) makes an open four of White's; H8 (112) has a stone.
+/// assert_eq!(renju_win_check(&cells, 2, &[67]), 1);
+/// assert_eq!(renju_win_check(&cells, 2, &[112]), 0);
+/// assert_eq!(renju_win_check(&cells, 3, &[225]), 8 << 16);
+/// ```
+pub fn renju_win_check(cells: &[u8], colour: u8, line: &[u8]) -> u32 {
+    unsafe {
+        ffi::renju_win_check(
+            cells.as_ptr(),
+            cells.len(),
+            colour,
+            line.as_ptr(),
+            line.len(),
+        )
+    }
+}
+
+/// The first such line of at most `limit` attacks, by comparing codes from the
+/// front: how many points, their codes written; 0 for no line. Refusals 9, 12,
+/// 21, 13 for less room than 11 bytes.
+///
+/// ```
+/// # use renju::raw::*;
+/// let (mut cells, mut out) = ([0; 225], [0; 11]);
+/// assert_eq!(renju_read(b"A1/F8,G8,H8", &mut cells), 225);
+/// assert_eq!(renju_win_plan(&cells, 2, 1, &mut out), 1);
+/// assert_eq!(out[0], 67);
+/// assert_eq!(renju_win_plan(&cells, 1, 6, &mut out), 0);
+/// assert_eq!(renju_win_plan(&cells, 2, 7, &mut out), 21 << 16);
+/// ```
+pub fn renju_win_plan(cells: &[u8], colour: u8, limit: u8, out: &mut [u8]) -> u32 {
+    unsafe {
+        ffi::renju_win_plan(
+            cells.as_ptr(),
+            cells.len(),
+            colour,
+            limit,
+            out.as_mut_ptr(),
+            out.len(),
+        )
+    }
 }

@@ -70,6 +70,8 @@ pub enum Refusal {
     ApartLists = 19,
     /// 20: an SGF text outside the subset that is read.
     OutsideSubset = 20,
+    /// 21: a limit of attacks outside 1 to 6.
+    Limit = 21,
     /// 22: a side without stones, which stones text can't say.
     OneSided = 22,
 }
@@ -80,10 +82,10 @@ impl Refusal {
     /// ```
     /// use renju::Refusal;
     ///
-    /// assert_eq!(Refusal::ALL.len(), 21);
+    /// assert_eq!(Refusal::ALL.len(), 22);
     /// assert_eq!(Refusal::ALL[0].number(), 1);
     /// ```
-    pub const ALL: [Self; 21] = [
+    pub const ALL: [Self; 22] = [
         Self::TextLength,
         Self::TextByte,
         Self::XPart,
@@ -104,6 +106,7 @@ impl Refusal {
         Self::NotNext,
         Self::ApartLists,
         Self::OutsideSubset,
+        Self::Limit,
         Self::OneSided,
     ];
 
@@ -146,6 +149,7 @@ impl Refusal {
             18 => Self::NotNext,
             19 => Self::ApartLists,
             20 => Self::OutsideSubset,
+            21 => Self::Limit,
             22 => Self::OneSided,
             _ => return None,
         })
@@ -182,6 +186,7 @@ impl Refusal {
             Self::NotNext => "the move's number is not next, or there is no such move",
             Self::ApartLists => "neither list begins the other",
             Self::OutsideSubset => "the SGF text is outside the subset that is read",
+            Self::Limit => "the limit of attacks is not 1 to 6",
             Self::OneSided => "a side has no stones, which stones text can't say",
         }
     }

@@ -2,8 +2,8 @@
 //! Rust.
 
 use renju::{CELLS, Colour, DIAGRAM, Kind, MENDED, MOVES, PRETTY, RECORD, REPORT, ROWS, ROWS_ON};
+use renju::{LINE, SGF, STONES_TEXT};
 use renju::{Reason, Refusal, TEXT, Verdict, View};
-use renju::{SGF, STONES_TEXT};
 use std::collections::BTreeMap;
 use std::fs;
 use std::path::Path;
@@ -124,7 +124,7 @@ fn parameter_in_c(parameter: &str) -> String {
 #[test]
 fn same_functions() {
     let header = header_prototypes();
-    assert_eq!(header.len(), 40);
+    assert_eq!(header.len(), 42);
     assert_eq!(header, raw_prototypes());
     assert_eq!(header, source_prototypes());
 }
@@ -189,6 +189,7 @@ fn same_numbers() {
             ("RENJU_REPORT", REPORT),
             ("RENJU_REASON_NONE", 0),
             ("RENJU_RECORD", RECORD),
+            ("RENJU_LINE", LINE),
             ("RENJU_SGF", SGF),
             ("RENJU_MENDED", MENDED),
         ]

@@ -7,7 +7,7 @@ use std::collections::HashSet;
 #[test]
 fn numbers_and_meanings() {
     let mut meanings = HashSet::new();
-    for (refusal, number) in Refusal::ALL.into_iter().zip((1..=20).chain([22])) {
+    for (refusal, number) in Refusal::ALL.into_iter().zip(1..) {
         assert_eq!(refusal.number(), number);
         assert_eq!(Refusal::from_number(number), Some(refusal));
         assert_eq!(answer(u32::from(number) << 16), Err(refusal));
@@ -16,7 +16,7 @@ fn numbers_and_meanings() {
         assert_eq!(said, format!("refused {number}: {meaning}"));
         assert!(meanings.insert(meaning), "{meaning}, twice");
     }
-    for number in (0..=0).chain(21..=21).chain(23..=u8::MAX) {
+    for number in (0..=0).chain(23..=u8::MAX) {
         assert_eq!(Refusal::from_number(number), None);
     }
     assert_eq!(answer(65535), Ok(65535));

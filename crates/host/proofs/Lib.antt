@@ -12,3 +12,5 @@ pub mod Paired
 pub mod Handed
 -- cells turned by one view and then by another, and turned back, of the calls
 pub mod Turned
+-- the number of a test
+pub mod Hinted

@@ -26,7 +26,7 @@ use Rattle.host.specs.Answers.{word, countWord, maskWord, numberWord, ve
 
 -- ---- the number of an answer, whatever its type
 
-word-of : {A : Type 0} (w : A → ℕ) (a b : A) (refused n : ℕ) → w a ≡ word 0 n → w b ≡ word refused 0
+pub word-of : {A : Type 0} (w : A → ℕ) (a b : A) (refused n : ℕ) → w a ≡ word 0 n → w b ≡ word refused 0
     → w (cond (eqb refused 0) a b) ≡ word refused n
 unfolding word
 word-of w a b refused n p q = go (decide (eqb refused 0))

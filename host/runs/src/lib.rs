@@ -4,6 +4,7 @@ pub mod depth;
 pub mod differential;
 pub mod feed;
 pub mod mending;
+pub mod hints;
 pub mod reading;
 pub mod sgf;
 pub mod stored;

@@ -203,6 +203,18 @@ static void mended(void) {
     say("mend", renju_mend((const uint8_t *)list, strlen(list), lines, 9), 0);
 }
 
+/* White has an open three on row 8: E8 wins; then a limit that is none, and too little room. */
+static void hints(void) {
+    static const char text[] = "A1/F8,G8,H8";
+    uint8_t cells[RENJU_CELLS], line[RENJU_LINE] = {67};
+    renju_read((const uint8_t *)text, sizeof text - 1, cells, sizeof cells);
+    say("win_check", renju_win_check(cells, sizeof cells, RENJU_WHITE, line, 1), 0);
+    say("win_check", renju_win_check(cells, sizeof cells, RENJU_BLACK, line, 1), 0);
+    say("win_plan", renju_win_plan(cells, sizeof cells, RENJU_WHITE, 1, out, RENJU_LINE), 1);
+    say("win_plan", renju_win_plan(cells, sizeof cells, RENJU_WHITE, 7, out, RENJU_LINE), 1);
+    say("win_plan", renju_win_plan(cells, sizeof cells, RENJU_WHITE, 6, out, RENJU_LINE - 1), 1);
+}
+
 int main(void) {
     texts();
     points();
@@ -215,5 +227,6 @@ int main(void) {
     feeds();
     sgf_texts();
     mended();
+    hints();
     return 0;
 }

@@ -1,0 +1,94 @@
+-- `hint::eyes::eyes_by` meets its contract: the Swords passed have one eye, the first's. Assumes nothing.
+use mathlib.Core.Path.{sym, _∙_}
+use Prim.Native.Nat.{_-_}
+use native.Mathlib.Omega.{arith}
+use borrow.Author.Needs.{needs}
+use Rattle.grid.specs.Lines.{cellsOf}
+use Rattle.grid.proofs.Lines.{length-cellsOf}
+use Rattle.hint.proofs.Asked.{zero-empty}
+use Rattle.hint.proofs.Gaps.{Agree, first-sword, agree-first, agree-next, several-eyes, one-eye, walk-less}
+use Rattle.hint.proofs.eyes.eyes_by.Statement.{statement}
+use Rattle.hint.proofs.eyes.eyes_by.Tie as tie
+
+abbrev Inv-loop : tie.InvT-loop
+Inv-loop lines table code side swords sword₀ first sword =
+    Agree side (cellsOf lines) code first sword
+
+abbrev μ-loop : tie.MeasureT-loop
+μ-loop lines table code side swords sword₀ first sword =
+    64 - sword
+
+next-start-requires : tie.Need-next-start-requires Inv-loop μ-loop
+next-start-requires c κs =
+    search needs
+
+eye-at-requires : tie.Need-eye-at-requires Inv-loop μ-loop
+eye-at-requires c κs =
+    let s = c .before in
+    let f = first-sword (s .args .side) (cellsOf (s .args .lines .now)) (s .args .code) (length-cellsOf (s .args .lines .now)) (s .pre .1)
+    (zero-empty (s .pre .2)) (s .pre .4) (s .pre .5) (c .next-start .ensures) in
+    (s .pre .0, s .pre .1, s .pre .2, s .pre .3, f .0, f .1)
+
+loop-holds : tie.Need-loop-holds Inv-loop μ-loop
+loop-holds c =
+    let s = c .before .before in
+    agree-first (s .args .side) (cellsOf (s .args .lines .now)) (s .args .code) (length-cellsOf (s .args .lines .now)) (s .pre .1)
+    (zero-empty (s .pre .2)) (s .pre .4) _ (c .before .next-start .ensures)
+
+eye-at-requires-2 : tie.Need-eye-at-requires-2 Inv-loop μ-loop
+eye-at-requires-2 c κs =
+    let s = c .before .before .before .before in
+    (s .pre .0, s .pre .1, s .pre .2, s .pre .3, c .loop-test .taken, c .before .loop .inv .here (c .loop-test .taken))
+
+returns : tie.Need-returns Inv-loop μ-loop
+returns c =
+    let s = c .before .before .before .before .before .before in
+    let f = first-sword (s .args .side) (cellsOf (s .args .lines .now)) (s .args .code) (length-cellsOf (s .args .lines .now)) (s .pre .1)
+    (zero-empty (s .pre .2)) (s .pre .4) (s .pre .5) (c .before .before .before .before .before .next-start .ensures) in
+    several-eyes (s .args .side) (cellsOf (s .args .lines .now)) (s .args .code) (length-cellsOf (s .args .lines .now)) (s .pre .1)
+    (zero-empty (s .pre .2)) (c .before .before .before .before .before .next-start .result) (c .before .before .before .loop .sword) (f .0) (c .before .before .loop-test .taken) (f .1) (c .before .before .before .loop .inv .here (c .before .before .loop-test .taken))
+    (λ e. c .if1 .taken (c .before .eye-at2 .ensures ∙ e ∙ sym (c .before .before .before .before .eye-at .ensures))) _
+
+add-next-start : tie.Need-add-next-start Inv-loop μ-loop
+add-next-start c =
+    omega arith
+
+next-start-requires-2 : tie.Need-next-start-requires-2 Inv-loop μ-loop
+next-start-requires-2 c κs =
+    search needs
+
+loop-less : tie.Need-loop-less Inv-loop μ-loop
+loop-less c =
+    walk-less _ (c .before .before .before .before .loop .sword) (c .before .before .before .loop-test .taken) (c .next-start2 .ensures)
+
+loop-again : tie.Need-loop-again Inv-loop μ-loop
+loop-again c =
+    let s = c .before .before .before .before .before .before .before in
+    agree-next (s .args .side) (cellsOf (s .args .lines .now)) (s .args .code) (length-cellsOf (s .args .lines .now)) (s .pre .1)
+    (zero-empty (s .pre .2)) (s .pre .4) _ (c .before .before .before .before .loop .sword) (c .before .before .before .before .loop .inv) (c .before .before .before .loop-test .taken) (sym (c .before .before .eye-at2 .ensures) ∙ c .before .if1 .left)
+    (c .next-start2 .ensures)
+
+returns-2 : tie.Need-returns-2 Inv-loop μ-loop
+returns-2 c =
+    let s = c .before .before .before .before in
+    let f = first-sword (s .args .side) (cellsOf (s .args .lines .now)) (s .args .code) (length-cellsOf (s .args .lines .now)) (s .pre .1)
+    (zero-empty (s .pre .2)) (s .pre .4) (s .pre .5) (c .before .before .before .next-start .ensures) in
+    one-eye (s .args .side) (cellsOf (s .args .lines .now)) (s .args .code) (length-cellsOf (s .args .lines .now)) (s .pre .1)
+    (zero-empty (s .pre .2)) (c .before .before .before .next-start .result) _ (f .0) (f .1) (c .before .before .eye-at .ensures) (c .before .loop .sword) (omega arith) (c .before .loop .inv)
+
+pub eyes-by-spec : {M : Type 1} → statement M
+eyes-by-spec =
+    tie.close
+    (tie.spec
+    Inv-loop
+    μ-loop
+    next-start-requires
+    eye-at-requires
+    loop-holds
+    eye-at-requires-2
+    returns
+    add-next-start
+    next-start-requires-2
+    loop-less
+    loop-again
+    returns-2)

@@ -1,0 +1,81 @@
+-- What the code sees of an attack. No public statement cites what is said here.
+use mathlib.Core.Path.{_≡_}
+use mathlib.Core.Bool.{Bool, true, false, not, _&&_, cond}
+use mathlib.Core.List.{List, [], _∷_}
+use Prim.Native.Nat.{ℕ, _+_, _<_}
+use lib.Dec.{T}
+use Rattle.rules.specs.Numbers.{isBlack, isNone, opponentOf}
+use Rattle.rules.specs.Tools.{anyBelow}
+use Rattle.rules.specs.Line.{Stones}
+use Rattle.rules.specs.Point.{lineNo, pointAt, keyDir, keyNo}
+use Rattle.rules.specs.Grid.{put, stoneAt, rowOn, rowsThrough}
+use Rattle.rules.specs.Forbidden.{someRow, strictOf}
+use Rattle.rules.specs.declared.Player.{Player}
+use Rattle.rules.specs.declared.RowKind.{RowKind}
+use Rattle.rules.specs.declared.RowKind.the-variants.{Sword}
+use Rattle.grid.specs.Lines.{cellsOf, Sound}
+use Rattle.hint.specs.Hint.{completes, mayAttack, endsAt, forces, afterBoth, reachesEnd}
+use Rattle.hint.specs.declared.attack.Attack.{Attack}
+use Rattle.hint.specs.declared.attack.Attack.the-variants as attack
+
+-- ---- eyes
+
+-- the first of five cells from j on that has no stone, or the last: of a Four at start j this is its one eye
+unfoldable pub gapOf : Stones → ℕ → ℕ
+gapOf own j = cond (own j) (cond (own (j + 1)) (cond (own (j + 2)) (cond (own (j + 3)) (j + 4) (j + 3)) (j + 2)) (j + 1)) j
+
+-- the eye that is left of a Sword through p, at start j of the line in direction d, by the side's stone at p
+unfoldable pub swordEye : Player → List ℕ → ℕ → ℕ → ℕ → ℕ
+swordEye side cells p d j = pointAt d (lineNo d p) (gapOf (stoneAt side (put side cells p) d (lineNo d p)) j)
+
+-- two or more
+unfoldable pub isSeveral : List ℕ → Bool
+isSeveral [] = false
+isSeveral (e ∷ []) = false
+isSeveral (e ∷ f ∷ more) = true
+
+-- eyes as the code tells them: several, or one only, the first
+pub record EyesAre (l : List ℕ) (several : Bool) (first : ℕ) : Type 0 where
+  pub more : several ≡ isSeveral l
+  pub one : several ≡ false → l ≡ first ∷ []
+
+-- ---- an attack
+
+-- "Before each attack the defender may have no point that completes a five."
+abbrev pub Quiet : Player → List ℕ → Type 0
+Quiet side cells = anyBelow 225 (completes (opponentOf side) cells) ≡ false
+
+-- an attack at p that forces a reply at e, after which the defender can complete nothing
+pub record Forced (side : Player) (cells : List ℕ) (p e : ℕ) : Type 0 where
+  pub may : T (mayAttack side cells p)
+  pub forced : T (forces side cells p e)
+  pub quiet : Quiet side (afterBoth side cells p e)
+
+-- what an attack at p does: no line begins with it; it ends the line; or it forces a reply after which the defender can complete nothing
+unfoldable pub AttackIs : Player → List ℕ → ℕ → Attack → Type 0
+AttackIs side cells p attack.No = (rest : List ℕ) → reachesEnd side cells (p ∷ rest) ≡ false
+AttackIs side cells p attack.Ends = T (mayAttack side cells p) × T (endsAt side cells p)
+AttackIs side cells p (attack.Forces e) = Forced side cells p e
+
+-- what a reply at the only eye e does, on the board with the attack: it is forbidden; it makes a four of the defender's; it is forced
+unfoldable pub AnswerIs : Player → List ℕ → ℕ → Attack → Type 0
+AnswerIs defender cells e attack.No =
+    ((isBlack defender && not (isNone (strictOf cells e))) ≡ false) × (someRow (rowsThrough defender Sword cells e) ≡ true)
+AnswerIs defender cells e attack.Ends = (isBlack defender && not (isNone (strictOf cells e))) ≡ true
+AnswerIs defender cells e (attack.Forces f) =
+    (f ≡ e) × ((isBlack defender && not (isNone (strictOf cells e))) ≡ false) × (someRow (rowsThrough defender Sword cells e) ≡ false)
+
+-- ---- a list
+
+-- one attack of a list, before and after which the lines are l and m, and what is left of the list: it goes on from there, or ends so or not
+pub record NextIs (side : Player) (l m list rest : List ℕ) (goes ends : Bool) : Type 0 where
+  pub stops : goes ≡ false → ends ≡ reachesEnd side (cellsOf l) list
+  pub sound : goes ≡ true → Sound m
+  pub quiet : goes ≡ true → Quiet side (cellsOf m)
+  pub same : goes ≡ true → reachesEnd side (cellsOf l) list ≡ reachesEnd side (cellsOf m) rest
+
+-- ---- the board, line by line
+
+-- the player has a row of the kind on the line of key k
+unfoldable pub rowOnKey : Player → RowKind → List ℕ → ℕ → Bool
+rowOnKey r kind cells k = anyBelow 16 (rowOn r kind cells (keyDir k) (keyNo k))
