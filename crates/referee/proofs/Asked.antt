@@ -4,17 +4,18 @@ use mathlib.Core.Bool.{Bool, true, false, cond}
 use mathlib.Core.List.{List}
 use Prim.Native.Nat.{ℕ, zero, suc, _+_, _*_, _≤_, _<_}
 use native.Mathlib.Omega.{arith}
-use lib.Dec.{eqb}
+use lib.Dec.{T, eqb}
 use lib.ListN.{getD}
 use borrow.Author.Tests.{ne-eqb}
 use Rattle.rules.specs.Grid.{isEmpty, empties, startMasks, rowsThrough}
-use Rattle.rules.specs.Forbidden.{withBlack, strictOf, realDouble}
+use Rattle.rules.specs.Forbidden.{withBlack, strictOf}
 use Rattle.rules.specs.declared.Player.the-variants.{Black}
 use Rattle.rules.specs.declared.RowKind.the-variants.{Two, Three}
 use Rattle.rules.specs.declared.Verdict.{Verdict}
-use Rattle.rules.specs.declared.Verdict.the-variants.{None, DoubleThree}
+use Rattle.rules.specs.declared.Verdict.the-variants.{None}
 use Rattle.rules.proofs.Grown.{twos-grown}
 use Rattle.rules.proofs.Verdicts.{strict-taken}
+use Rattle.lent.specs.Lists.{zeros}
 use Rattle.point.specs.Places.{addresses}
 use Rattle.grid.specs.Lines.{cellOf, cellsOf, linesOf, Sound, writeOn, markBy, addOn, liftOn}
 use Rattle.grid.proofs.Lines.{cells-linesOf, sound-linesOf, length-cellsOf, cell-on, empty-cell}
@@ -22,7 +23,6 @@ use Rattle.grid.proofs.Lines.{cells-write, sound-write, trial, trial-empties}
 use Rattle.grid.proofs.Marked.{add-write, trial-marked}
 use Rattle.grid.proofs.Placed.{mark-by}
 use Rattle.cells.specs.Cells.{Cells}
-use Rattle.referee.specs.Referee.{Triable}
 
 -- ---- by the cell at p
 
@@ -57,25 +57,11 @@ module _ (cells : List ℕ) (p : ℕ) (ok : Cells cells) (hp : p < 225) where
   pub lines-of-cells : {l : List ℕ} → l ≡ linesOf cells → cellsOf l ≡ cells
   lines-of-cells el = ap cellsOf el ∙ cells-linesOf cells ok
 
-  -- a trial on the lines of the cells, and what it says
-  module _ {l : List ℕ} (el : l ≡ linesOf cells) where
-    pub trial-of : {twos : List ℕ} → getD cells p 0 ≡ 0 → twos ≡ startMasks (rowsThrough Black Two cells p) → Triable l p twos
-    trial-of free et =
-        record {
-          sound = lines-of-sound el;
-          free = ap (λ (c : List ℕ). getD c p 0) (lines-of-cells el) ∙ free;
-          starts = et ∙ ap (λ (c : List ℕ). startMasks (rowsThrough Black Two c p)) (sym (lines-of-cells el));
-        }
-
-    module _ {real : Bool} (er : real ≡ realDouble strictOf (withBlack (cellsOf l) p) p) where
-      says : realDouble strictOf (withBlack cells p) p ≡ real
-      says = ap (λ (c : List ℕ). realDouble strictOf (withBlack c p) p) (sym (lines-of-cells el)) ∙ sym er
-
-      pub tried : real ≡ true → DoubleThree ≡ cond (realDouble strictOf (withBlack cells p) p) DoubleThree None
-      tried h = rw (says ∙ h)
-
-      pub not-tried : real ≡ false → None ≡ cond (realDouble strictOf (withBlack cells p) p) DoubleThree None
-      not-tried h = rw (says ∙ h)
+-- lines that were wanted are built
+pub lines-wanted : (wanted : Bool) (cells : List ℕ) {l : List ℕ} → l ≡ cond wanted (linesOf cells) (zeros 144) → T wanted
+    → l ≡ linesOf cells
+lines-wanted true cells e t = e
+lines-wanted false cells e t = absurd t
 
 -- ---- the trial stone: m is l with Black at p
 

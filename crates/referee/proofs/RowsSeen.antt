@@ -1,7 +1,7 @@
 -- A player's rows through a point by the masks of its four lines are those of the cells; the verdict by Black's is the verdict. Assumes
 -- nothing.
 use mathlib.Core.Path.{_≡_, refl, ap, ap₂, sym, _∙_, fun-ext}
-use mathlib.Core.Bool.{Bool, true, false, _&&_, _||_, cond}
+use mathlib.Core.Bool.{Bool, true, false, _&&_, _||_}
 use mathlib.Core.Logic.{_⊎_, inl, inr}
 use mathlib.Core.List.{List, [], _∷_}
 use Prim.Native.Nat.{ℕ, zero, suc, _<_}
@@ -15,12 +15,11 @@ use Rattle.rules.specs.Point.{lineNo, cellNo, lineSize, pointAt}
 use Rattle.rules.specs.Grid.{isEmpty, stoneAt, startMasks, startsOf, rowOn, rowsThrough}
 use Rattle.rules.specs.Forbidden.{someRow, moreThanOne, blackRows}
 use Rattle.rules.specs.Forbidden.{moreTwos}
-use Rattle.rules.specs.Forbidden.{mayForbid, plainOf, strictOf, withBlack, realDouble}
+use Rattle.rules.specs.Forbidden.{mayForbid, plainOf, strictOf}
 use Rattle.rules.specs.declared.Player.{Player}
 use Rattle.rules.specs.declared.Player.the-variants.{Black}
 use Rattle.rules.specs.declared.RowKind.{RowKind}
 use Rattle.rules.specs.declared.RowKind.the-variants.{Two, Sword, Four, Overlining}
-use Rattle.rules.specs.declared.Verdict.the-variants.{None, Overline, DoubleFour, DoubleThree}
 use Rattle.rules.proofs.Logic.{true-T, decide}
 use Rattle.rules.proofs.Starts.{masks-same, five-is, overline-is, double-four-is, twos-are}
 use Rattle.rules.proofs.Verdicts.{may-told, plain-told, strict-told}
@@ -121,30 +120,3 @@ module _ (cells : List ℕ) (p : ℕ) {r : Rows} (rows : RowsAre (blackRows cell
   may-is eb =
       may-told cells p (overline-is cells p (rows .overlinings) refl) (double-four-is cells p (rows .swords) refl)
       (twos-are cells p (rows .twos) refl) eb
-
--- ---- section 5's order, test by test
-
-module _ (l : List ℕ) (p : ℕ) (r : Rows) where
-  pub by-five : someRow (startsOf (r .fours)) ≡ true → None ≡ strictBy l p r
-  unfolding strictBy
-  by-five h = rw h
-
-  module _ (f : someRow (startsOf (r .fours)) ≡ false) where
-    pub by-over : someRow (startsOf (r .overlinings)) ≡ true → Overline ≡ strictBy l p r
-    unfolding strictBy plainBy
-    by-over h = rw (f, h)
-
-    module _ (o : someRow (startsOf (r .overlinings)) ≡ false) where
-      pub by-four : moreThanOne (startsOf (r .swords)) ≡ true → DoubleFour ≡ strictBy l p r
-      unfolding strictBy plainBy
-      by-four h = rw (f, o, h)
-
-      module _ (w : moreThanOne (startsOf (r .swords)) ≡ false) where
-        pub by-trial : moreThanOne (startsOf (r .twos)) ≡ true
-            → cond (realDouble strictOf (withBlack (cellsOf l) p) p) DoubleThree None ≡ strictBy l p r
-        unfolding strictBy plainBy
-        by-trial h = rw (f, o, w, h)
-
-        pub by-none : moreThanOne (startsOf (r .twos)) ≡ false → None ≡ strictBy l p r
-        unfolding strictBy plainBy
-        by-none h = rw (f, o, w, h)

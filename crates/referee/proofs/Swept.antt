@@ -1,9 +1,10 @@
 -- The strict verdict by the marks of the points to ask about: none where there is no mark. Assumes nothing.
-use mathlib.Core.Path.{_≡_, ap, sym, subst, _∙_}
-use mathlib.Core.Bool.{Bool, false, _&&_}
+use mathlib.Core.Path.{_≡_, refl, ap, sym, subst, _∙_}
+use mathlib.Core.Bool.{Bool, true, false, _&&_}
 use mathlib.Core.List.{List, []}
-use Prim.Native.Nat.{ℕ, _+_, _-_, _/_, _%_, _≤_, _<_}
+use Prim.Native.Nat.{ℕ, zero, suc, _+_, _-_, _/_, _%_, _≤_, _<_}
 use native.Mathlib.Omega.{arith}
+use lib.Dec.{T, eqb}
 use lib.ListN.{getD, length}
 use borrow.Author.Tests.{eq-eqb}
 use Rattle.rules.specs.Tools.{anyBelow, gather}
@@ -13,13 +14,13 @@ use Rattle.rules.specs.Grid.{isEmpty}
 use Rattle.rules.specs.Forbidden.{mayForbid, strictOf, entry, forbiddenList}
 use Rattle.rules.specs.declared.Verdict.{Verdict}
 use Rattle.rules.specs.declared.Verdict.the-variants.{None}
+use Rattle.rules.proofs.Logic.{true-T, and-left, and-right}
 use Rattle.rules.proofs.Lists.{gather-skip}
 use Rattle.rules.proofs.Bits.{bit-mask, bit-none}
 use Rattle.rules.proofs.Verdicts.{unasked-none}
 use Rattle.sweep.specs.Marks.{marks, askedAt}
 use Rattle.sweep.proofs.Marks.{mark-at, column-none}
-use Rattle.point.specs.Places.{addresses}
-use Rattle.grid.specs.Lines.{cellsOf, Sound}
+use Rattle.cells.specs.Cells.{Cells}
 use Rattle.referee.specs.Referee.{columnsOf}
 
 module _ (cells : List ℕ) (long : length cells ≡ 225) where
@@ -67,7 +68,16 @@ pub marked-is : (cells : List ℕ) (p : ℕ) {m : List ℕ} {b : Bool} → p < 2
 marked-is cells p hp em eb =
     eb ∙ ap (λ (l : List ℕ). bit (getD l (yOf p + 5) 0) (xOf p)) em ∙ mark-at (askedAt cells) p hp
 
--- what is asked of lines m that are the lines l at the start
-pub on-same : (l : List ℕ) {m asked table : List ℕ} {p : ℕ} → m ≡ l → Sound l → p < 225 → asked ≡ marks (askedAt (cellsOf l))
-    → table ≡ addresses → Sound m × (p < 225) × (asked ≡ marks (askedAt (cellsOf m))) × (table ≡ addresses)
-on-same l e s hp a t = (subst Sound (sym e) s, hp, a ∙ ap (λ (x : List ℕ). marks (askedAt (cellsOf x))) (sym e), t)
+-- a marked point is empty
+free-cell : (v : ℕ) → v ≤ 2 → T (isEmpty v) → v ≡ 0
+free-cell zero h t = refl
+free-cell (suc zero) h t = absurd t
+free-cell (suc (suc zero)) h t = absurd t
+free-cell (suc (suc (suc v))) h t = absurd (omega arith)
+
+pub marked-free : (cells : List ℕ) (p : ℕ) → Cells cells → p < 225 → askedAt cells p ≡ true → getD cells p 0 ≡ 0
+unfolding askedAt
+marked-free cells p ok hp e =
+    free-cell (getD cells p 0) (ok .small p hp)
+    (and-right (eqb (length cells) 225) (isEmpty (getD cells p 0))
+    (and-left (eqb (length cells) 225 && isEmpty (getD cells p 0)) (mayForbid cells p) (true-T e)))

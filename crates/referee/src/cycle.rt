@@ -74,7 +74,7 @@ pub(crate) fn plain(lines: &mut [u16; 144], table: &[u16; 900], code: u8, rows: 
 
 // "on the board with Black at p more than one real Three through p": the stone is put, the question asked, the stone taken off. The Twos
 // through the point are then the Threes.
-pub(crate) fn trial(lines: &mut [u16; 144], table: &[u16; 900], code: u8, twos: [u16; 4]) -> bool
+fn trial(lines: &mut [u16; 144], table: &[u16; 900], code: u8, twos: [u16; 4]) -> bool
     requires { ⌜ (code < 225) × Triable (now lines) code twos × (now table ≡ addresses) ⌝ }
     ensures { λ r. ⌜ (r ≡ realDouble strictOf (withBlack (cellsOf (now (lines .entry))) code) code)
         × (now (lines .exit) ≡ now (lines .entry)) ⌝ }

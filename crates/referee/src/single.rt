@@ -1,5 +1,5 @@
 // One point of a board given as cell bytes: only the four lines through it are read, unless there may be a trial.
-use super::cycle::trial;
+use super::cycle::strict_by;
 use grid::lines_by;
 use near::Rows;
 use near::more_than_one;
@@ -18,12 +18,13 @@ ghost use lib.Dec.{eqb};
 ghost use lib.ListN.{getD};
 ghost use Rattle.rules.specs.Bit.{bit, maskOf};
 ghost use Rattle.rules.specs.Point.{lineNo};
-ghost use Rattle.rules.specs.Grid.{stoneAt, startMasks, startsOf, rowsThrough};
-ghost use Rattle.rules.specs.Forbidden.{strictOf, someRow, moreThanOne, blackRows, withBlack, realDouble};
+ghost use Rattle.rules.specs.Grid.{stoneAt, startsOf};
+ghost use Rattle.rules.specs.Forbidden.{strictOf, someRow, moreThanOne, blackRows};
 ghost use Rattle.rules.specs.declared.Player.the-variants.{Black, White};
-ghost use Rattle.rules.specs.declared.RowKind.the-variants.{Two};
-ghost use Rattle.rules.specs.declared.Verdict.the-variants.{None, DoubleThree};
 ghost use Rattle.near.specs.Rows.{RowsAre};
+ghost use Rattle.lent.specs.Lists.{zeros};
+ghost use Rattle.point.specs.Places.{addresses};
+ghost use Rattle.grid.specs.Lines.{linesOf};
 ghost use Rattle.cells.specs.Cells.{Cells};
 
 // The masks of one line.
@@ -32,8 +33,7 @@ struct LineStones {
     whites: u16,
 }
 
-// The strict verdict, in section 5's order by the rows through the point. Lines, and the table of addresses for them, are laid out only
-// where a trial is all that is left to ask.
+// The strict verdict. Where no kind may apply it is none: that is seen first, so that neither the table nor room for lines is laid out.
 pub(crate) fn strict_of(cells: &[u8], code: u8) -> Verdict
     requires { ⌜ Cells (now cells) × (code < 225) ⌝ }
     ensures { λ r. ⌜ r ≡ strictOf (now (cells .entry)) code ⌝ }
@@ -42,37 +42,34 @@ pub(crate) fn strict_of(cells: &[u8], code: u8) -> Verdict
         return Verdict::None;
     }
     let rows = rows_of(cells, code);
-    let fours = rows.fours;
-    let overlinings = rows.overlinings;
-    let swords = rows.swords;
-    let twos = rows.twos;
-    if some_row(fours) {
-        return Verdict::None;
-    }
-    if some_row(overlinings) {
-        return Verdict::Overline;
-    }
-    if more_than_one(swords) {
-        return Verdict::DoubleFour;
-    }
-    if more_than_one(twos) {
-        return tried_of(cells, code, twos);
+    if may_forbid(rows) {
+        let table = addresses();
+        return asked_of(cells, &table, code, rows);
     }
     Verdict::None
 }
 
-// What a trial says at an empty point through which more than one Two goes. The lines are built by the table that the trial then reads.
-fn tried_of(cells: &[u8], code: u8, twos: [u16; 4]) -> Verdict
-    requires { ⌜ Cells (now cells) × (code < 225) × (getD (now cells) code 0 ≡ 0)
-        × (twos ≡ startMasks (rowsThrough Black Two (now cells) code)) ⌝ }
-    ensures { λ r. ⌜ r ≡ cond (realDouble strictOf (withBlack (now (cells .entry)) code) code) DoubleThree None ⌝ }
+// .. at an empty point, by Black's rows through it. Lines are built only where more than one Two may lead to a trial, by the table that the
+// trial then reads.
+pub(crate) fn asked_of(cells: &[u8], table: &[u16; 900], code: u8, rows: Rows) -> Verdict
+    requires { ⌜ Cells (now cells) × (code < 225) × (getD (now cells) code 0 ≡ 0) × RowsAre (blackRows (now cells) code) rows
+        × (now table ≡ addresses) ⌝ }
+    ensures { λ r. ⌜ r ≡ strictOf (now (cells .entry)) code ⌝ }
 {
-    let table = addresses();
-    let mut lines = lines_by(cells, &table);
-    if trial(&mut lines, &table, code, twos) {
-        return Verdict::DoubleThree;
+    let twos = rows.twos;
+    let mut lines = lines_if(more_than_one(twos), cells, table);
+    strict_by(&mut lines, table, code, rows)
+}
+
+// The stored lines, where they are wanted.
+pub(crate) fn lines_if(wanted: bool, cells: &[u8], table: &[u16; 900]) -> [u16; 144]
+    requires { ⌜ now table ≡ addresses ⌝ }
+    ensures { λ r. ⌜ r ≡ cond wanted (linesOf (now (cells .entry))) (zeros 144) ⌝ }
+{
+    if wanted {
+        return lines_by(cells, table);
     }
-    Verdict::None
+    [0; 144]
 }
 
 // Whether some kind may apply, by the tests that need no nested question: where Black's rows through a point are these and none passes,
@@ -94,7 +91,7 @@ pub fn may_forbid(rows: Rows) -> bool
 }
 
 // Black's rows through a point of the cells.
-fn rows_of(cells: &[u8], code: u8) -> Rows
+pub(crate) fn rows_of(cells: &[u8], code: u8) -> Rows
     requires { ⌜ Cells (now cells) × (code < 225) ⌝ }
     ensures { λ r. ⌜ RowsAre (blackRows (now (cells .entry)) code) r ⌝ }
 {
