@@ -47,6 +47,7 @@
 use crate::raw::{renju_feed_missing, renju_feed_take};
 use crate::refusal::answer;
 use crate::{Cells, Colour, MOVES, Point, Refusal};
+use std::fmt;
 
 /// A move of a game, on its way to a client.
 ///
@@ -223,6 +224,14 @@ pub struct Client {
     held: Held,
 }
 
+impl fmt::Debug for Client {
+    fn fmt(&self, f: &mut fmt::Formatter<'_>) -> fmt::Result {
+        let mut said = f.debug_struct("Client");
+        said.field("game", &self.held.game);
+        said.field("codes", &self.as_codes()).finish()
+    }
+}
+
 impl Client {
     /// A client started for a game, empty.
     ///
@@ -306,6 +315,15 @@ impl Client {
 pub struct Server {
     held: Held,
     heard: u16,
+}
+
+impl fmt::Debug for Server {
+    fn fmt(&self, f: &mut fmt::Formatter<'_>) -> fmt::Result {
+        let mut said = f.debug_struct("Server");
+        said.field("game", &self.game());
+        said.field("codes", &self.as_codes());
+        said.field("heard", &self.heard).finish()
+    }
 }
 
 impl Server {

@@ -2,7 +2,7 @@
 
 use crate::raw;
 use crate::refusal::given;
-use crate::{Cells, Colour, LINE, List, Point, Refusal};
+use crate::{CELLS, Cells, Colour, LINE, List, Point, Refusal};
 
 /// A line of fours: the first attack, its reply, the next attack, and so on;
 /// the last point is an attack's.
@@ -121,8 +121,15 @@ impl Cells {
     /// # Ok::<(), renju::Refusal>(())
     /// ```
     pub fn is_win_by_fours(&self, colour: Colour, line: &[Point]) -> bool {
-        let codes: Vec<u8> = line.iter().map(|point| point.code()).collect();
+        // Each point of such a line is empty before its stone, so that it has at most 225.
+        let mut codes = [0; CELLS];
+        let Some(own) = codes.get_mut(..line.len()) else {
+            return false;
+        };
+        for (code, point) in own.iter_mut().zip(line) {
+            *code = point.code();
+        }
         // Sound cells, points and a colour: never refused.
-        given(raw::renju_win_check(&self.bytes, colour.number(), &codes)) == 1
+        given(raw::renju_win_check(&self.bytes, colour.number(), own)) == 1
     }
 }

@@ -245,6 +245,7 @@ pub const RECORD: usize = 232;
 /// # Ok::<(), renju::Refusal>(())
 /// ```
 pub const SGF: usize = 1364;
+
 /// Room enough for the two lines of any mended list, in bytes.
 ///
 /// ```

@@ -806,8 +806,6 @@ pub fn renju_tagged_view(record: &[u8]) -> u32 {
 }
 
 /// How many stones each side has: 256 times White's plus Black's. Refusal 9.
-/// Whether a line of points is a sure win by fours for the colour, to move: 1
-/// or 0. Refusals 9, 8, 12.
 ///
 /// ```
 /// # use renju::raw::*;
@@ -907,6 +905,12 @@ pub fn renju_mend(text: &[u8], out: &mut [u8]) -> u32 {
     unsafe { ffi::renju_mend(text.as_ptr(), text.len(), out.as_mut_ptr(), out.len()) }
 }
 
+/// Whether a line of points is a sure win by fours for the colour, to move: 1
+/// or 0. Refusals 9, 8, 12.
+///
+/// ```
+/// # use renju::raw::*;
+/// let mut cells = [0; 225];
 /// assert_eq!(renju_read(b"A1/F8,G8,H8", &mut cells), 225);
 /// // E8 (67) makes an open four of White's; H8 (112) has a stone.
 /// assert_eq!(renju_win_check(&cells, 2, &[67]), 1);

@@ -117,7 +117,7 @@ fn c_example_of_the_root() {
 /// comes before the first trial stone, each question inside another, and the last look at a point.
 #[cfg(target_arch = "x86_64")]
 fn stack_of(depth: usize) -> usize {
-    2544 + 160 * (depth - 1) + 132
+    2272 + 160 * (depth - 1) + 132
 }
 
 /// The deepest question that was found, on a thread that has so many bytes for it and no more; with the

@@ -1,7 +1,7 @@
 //! No question about a board touches the heap.
 
 use renju::feed::{Client, Server, missing};
-use renju::{Cells, Colour, Game, Kind, Point, Record, View, second};
+use renju::{Cells, Colour, Game, Kind, Limit, Point, Record, View, second};
 use std::alloc::{GlobalAlloc, Layout, System};
 use std::cell::Cell;
 use std::fmt::{self, Write};
@@ -67,6 +67,14 @@ fn feed(point: Point) {
     server.take_back().unwrap();
 }
 
+fn ask_for_a_win(cells: &Cells, point: Point) {
+    for colour in Colour::ALL {
+        black_box(cells.win_by_fours(colour, Limit::SIX));
+        black_box(cells.shortest_win_by_fours(colour, Limit::SIX));
+        black_box(cells.is_win_by_fours(colour, &[point]));
+    }
+}
+
 fn ask_everything(bytes: &[u8], text: &[u8], point: Point) {
     let mut cells = Cells::read(text).unwrap();
     cells.put(point, Colour::Black);
@@ -86,6 +94,8 @@ fn ask_everything(bytes: &[u8], text: &[u8], point: Point) {
     black_box(cells.forbidden(point)).unwrap();
     black_box(cells.forbidden_strict(point));
     black_box(cells.depth(point));
+    ask_for_a_win(&cells, point);
+    black_box(renju::mend(text)).ok();
     for cross in &cells.turned(View::HalfTurn).forbidden_points() {
         write!(Nowhere, "{cross}").unwrap();
     }

@@ -86,8 +86,8 @@ fn a_double_four_is_forbidden_to_black_and_wins_for_white() {
 }
 
 #[test]
-fn one_eye_of_two_fours_counts_once() {
-    // Two Fours through the new stone, E8 to H8 with J8: their one eye is I8.
+fn one_eye_of_three_fours_counts_once() {
+    // Three Fours through the new stone, in E8 to I8, F8 to J8 and G8 to K8: their one eye is I8.
     let board = "D8,N8/E8,F8,G8,J8,K8";
     assert!(!cells(board).is_win_by_fours(Colour::White, &points("H8")));
 }

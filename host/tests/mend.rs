@@ -60,7 +60,8 @@ fn every_point() {
 /// with as many stones.
 #[test]
 fn what_is_kept() {
-    for (step, length) in (1..225).flat_map(|step| [2, 9, 60, 230].map(|length| (step, length))) {
+    for (step, length) in (1..225).flat_map(|step| [1, 2, 9, 60, 230].map(|length| (step, length)))
+    {
         let code = |place: usize| (place * place * step + place) % 225;
         let point = |place| Point::from_code(code(place) as u8).expect("a point");
         let moves: Vec<Point> = (0..length).map(point).collect();
@@ -69,7 +70,7 @@ fn what_is_kept() {
         let text = written(&kept);
         let again = mended(&text);
         assert_eq!((&again.kept, again.slip), (&kept, None));
-        if kept.len() > 1 {
+        if !kept.is_empty() {
             let cells: Cells = text.parse().expect("a board");
             let stones = Colour::ALL.map(|colour| cells.stones(colour).len());
             assert_eq!(stones.iter().sum::<usize>(), kept.len());

@@ -11,7 +11,7 @@ use Rattle.feed.specs.Feed.{newServer, addsTo, takesBack, hasMove, messa
 use Rattle.feed.specs.Runs.{State, begun, Event, Adds, TakesBack, Sends, Repeats, Arrives, Hears}
 use Rattle.feed.specs.Runs.{without, twice, served, delivered, heardBy, next, run, heldIn}
 
--- on its way after the first six: message 2 (a copy), message 1 (a copy), and the answers that tell 1 and 0
+-- on its way after these eight: message 2 (a copy), message 1 (a copy), and the answers that tell 1 and 0
 early : List Event
 early = Adds 112 ∷ Adds 96 ∷ Sends 1 ∷ Sends 2 ∷ Repeats 0 ∷ Repeats 2 ∷ Arrives 0 7 ∷ Arrives 1 7 ∷ []
 

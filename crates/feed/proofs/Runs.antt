@@ -2,7 +2,7 @@
 -- events es at a table whose first game number is g. Assumes nothing.
 use mathlib.Core.Path.{_≡_, refl, sym, ap, subst, _∙_}
 use mathlib.Core.Logic.{_⊎_, inl, inr}
-use mathlib.Core.Bool.{true, false}
+use mathlib.Core.Bool.{Bool, true, false, _&&_, cond}
 use mathlib.Core.List.{List, [], _∷_}
 use Prim.Native.Nat.{ℕ, zero, suc, _+_, _-_, _≤_, _<_, max}
 use native.Mathlib.Omega.{arith}
@@ -22,7 +22,7 @@ use Rattle.feed.specs.declared.message.Answer.{Answer}
 use Rattle.feed.specs.declared.client.Client.{Client}
 use Rattle.feed.specs.declared.server.Server.{Server}
 use Rattle.feed.specs.Compare.{begins}
-use Rattle.feed.specs.Feed.{listOf, sizeOf, answerOf, messageOf, refusalBy, takes, addsTo, takesBack, holdsAll}
+use Rattle.feed.specs.Feed.{listOf, sizeOf, grown, shrunk, addRefusal, lastGame, answerOf, messageOf, refusalBy, takes, addsTo, takesBack, hears, holdsAll}
 use Rattle.feed.specs.Runs.{State, begun, Event, Adds, TakesBack, Sends, Loses, Repeats, Arrives, Asks, LosesAnswer, RepeatsAnswer, Hears}
 use Rattle.feed.specs.Runs.{served, delivered, heardBy, arrives, heard, next, run}
 use Rattle.feed.specs.Runs.{heldIn, FirstPart, Agree, AgreeAt, quiet, Quiet, messagesFrom, missingAt, Brings, Receives}
@@ -76,7 +76,7 @@ module _ (g : ℕ) (es : List Event) where
   pub own-number : (h : ℕ) → moment .clients h .game ≡ h
   own-number h = good .client h .game
 
-  -- "a new game number, never used before": nothing that is on its way has a number above the server's, and no client of one holds a move
+  -- "a new game number, never used before": no message on its way has a number above the server's, and no client of one holds a move
   pub never-used : (h : ℕ) → moment .server .game < h
       → (heldIn moment h ≡ []) × Each (λ (m : Message). m .game ≡ h → ⊥) (moment .messages)
   never-used h l = (
@@ -359,3 +359,39 @@ catches-up g es ds still r =
     (sizeOf (s .server .moves) - sizeOf (s .clients (s .server .game) .moves)) G still refl refl (omega arith) (omega arith) r in
     agree-at t (run-good ds s G)
     (subst (λ (x : ℕ). sizeOf (t .server .moves) ≤ sizeOf (t .clients x .moves)) (sym (k .game)) (omega (arith, w, ap sizeOf (k .moves))))
+
+-- ---- the server's number never falls; a takeback that is not refused opens the next one
+
+game-either : (b : Bool) (v w : Server) → v .game ≤ w .game → v .game ≤ cond b w v .game
+game-either true v w h = h
+game-either false v w h = omega arith
+
+pub number-grows : (s : State) (e : Event) → s .server .game ≤ next s e .server .game
+unfolding next served addsTo takesBack heardBy hears delivered
+number-grows s (Adds code) =
+    game-either (eqb (addRefusal (sizeOf (s .server .moves)) code) 0) (s .server)
+    (record { game = s .server .game; moves = grown (s .server .moves) code; heard = s .server .heard }) (omega arith)
+number-grows s TakesBack = go (eqb (s .server .game) lastGame)
+  where
+    go : (b : Bool)
+        → s .server .game ≤ cond b (s .server) (record { game = s .server .game + 1; moves = shrunk (s .server .moves); heard = 0 }) .game
+    go true = omega arith
+    go false = omega arith
+number-grows s (Sends n) = omega arith
+number-grows s (Loses k) = omega arith
+number-grows s (Repeats k) = omega arith
+number-grows s (Arrives k g) = go (drop k (s .messages))
+  where
+    go : (ms : List Message) → s .server .game ≤ arrives s k g ms .server .game
+    go [] = omega arith
+    go (m ∷ ms) = omega arith
+number-grows s (Asks g) = omega arith
+number-grows s (LosesAnswer k) = omega arith
+number-grows s (RepeatsAnswer k) = omega arith
+number-grows s (Hears k) = go (drop k (s .answers))
+  where
+    go : (told : List Answer) → s .server .game ≤ heard s k told .server .game
+    go [] = omega arith
+    go (a ∷ told) =
+        game-either (eqb (a .game) (s .server .game) && leb (a .count) (sizeOf (s .server .moves))) (s .server)
+        (record { game = s .server .game; moves = s .server .moves; heard = max (s .server .heard) (a .count) }) (omega arith)

@@ -1,5 +1,5 @@
 -- Lines that are built stone by stone, by section 3's table of addresses, are the lines of the cells. Assumes nothing.
-use mathlib.Core.Path.{_≡_, refl, ap, sym, _∙_}
+use mathlib.Core.Path.{_≡_, ap, _∙_}
 use mathlib.Core.Bool.{true, false, cond}
 use mathlib.Core.Logic.{_⊎_, inl, inr}
 use mathlib.Core.List.{List}
@@ -7,7 +7,6 @@ use Prim.Native.Nat.{ℕ, zero, suc, _+_, _≤_, _<_}
 use native.Mathlib.Omega.{arith}
 use lib.ListN.{getD, length}
 use Rattle.rules.specs.Numbers.{playerOf, isColour}
-use Rattle.rules.specs.Refusals.{unless, unsound}
 use Rattle.rules.specs.declared.Player.{Player}
 use Rattle.rules.proofs.Logic.{decide}
 use Rattle.point.specs.Places.{addresses}

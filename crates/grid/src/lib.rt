@@ -16,6 +16,7 @@ pub use starts::row_starts_on;
 pub use starts::starts_at;
 pub use store::add_on;
 pub use store::lift_on;
+pub use store::mark_on;
 pub use store::mask_on;
 pub use store::put_on;
 pub use store::remove_on;

@@ -79,6 +79,17 @@ pub fn lift_on(lines: &mut [u16; 144], table: &[u16; 900], code: u8, player: Pla
     mark_along(lines, table, 3, code, player, false);
 }
 
+// The player's stone put on its four lines, or lifted from them: for crates that search on boards of their own. `add_on` and `lift_on` are for
+// the referee's cycle, and are compiled into it as long as no other search calls them.
+pub fn mark_on(lines: &mut [u16; 144], table: &[u16; 900], code: u8, player: Player, on: bool)
+    ensures { λ _. ⌜ now (lines .exit) ≡ markBy (now (lines .entry)) (now (table .entry)) code player on ⌝ }
+{
+    mark_along(lines, table, 0, code, player, on);
+    mark_along(lines, table, 1, code, player, on);
+    mark_along(lines, table, 2, code, player, on);
+    mark_along(lines, table, 3, code, player, on);
+}
+
 // .. on the line in one direction, if that is stored.
 fn mark_along(lines: &mut [u16; 144], table: &[u16; 900], d: u8, code: u8, player: Player, on: bool)
     ensures { λ _. ⌜ now (lines .exit) ≡ markPlace (now (lines .entry)) (placeBy (now (table .entry)) d code) player on ⌝ }

@@ -11,7 +11,8 @@ use Rattle.rules.specs.Numbers.{isBlack, isWhite, isNone}
 use Rattle.rules.specs.Refusals.{codeRefusal}
 use Rattle.rules.specs.Answers.{verdictAnswer}
 use Rattle.rules.specs.Grid.{isEmpty, startsOf, rowsThrough}
-use Rattle.rules.specs.Forbidden.{someRow, moreThanOne, completesFive, isOverline, isDoubleFour, moreTwos, blackRows, mayForbid, plainWith, plainOf, strictOf}
+use Rattle.rules.specs.Forbidden.{someRow, moreThanOne, completesFive, isOverline, isDoubleFour, moreTwos, blackRows}
+use Rattle.rules.specs.Forbidden.{mayForbid, plainWith, plainOf, strictOf}
 use Rattle.rules.specs.declared.Player.{Player}
 use Rattle.rules.specs.declared.Player.the-variants.{Black, White}
 use Rattle.rules.specs.declared.RowKind.{RowKind}

@@ -13,7 +13,8 @@ use Rattle.rules.specs.Forbidden.{someRow, strictOf}
 use Rattle.rules.specs.declared.Player.{Player}
 use Rattle.rules.specs.declared.Player.the-variants.{Black, White}
 use Rattle.rules.specs.declared.RowKind.the-variants.{Sword, Four}
-use Rattle.rules.proofs.Logic.{T-true, true-T, along, no-true, decide, and-left, and-right, and-intro, or-left, or-right, or-cases, false-not, not-false}
+use Rattle.rules.proofs.Logic.{T-true, true-T, along, no-true, decide, and-left, and-right, and-intro, or-left, or-right, or-cases}
+use Rattle.rules.proofs.Logic.{false-not, not-false}
 use Rattle.rules.proofs.Logic.{any-intro, any-elim, not-elim}
 use Rattle.rules.proofs.More.{someRow-elim}
 use Rattle.hint.specs.Hint.{legal, completes, mayAttack, isFourEye, eyesFrom, endsBy, endsAt, onlyEye, forces, afterBoth, reachesEnd}

@@ -9,7 +9,7 @@ use lib.Dec.{T, eqb, leb}
 use lib.ListN.{length}
 use lib.Seq.{sets}
 use borrow.Author.Tests.{leb-true, le-leb}
-use Rattle.rules.specs.Refusals.{noRoom, unless, first, colourRefusal}
+use Rattle.rules.specs.Refusals.{noRoom, noLimit, unless, first, colourRefusal}
 use Rattle.rules.proofs.Logic.{decide, no-true}
 use Rattle.rules.proofs.Refusals.{first-none}
 use Rattle.lent.specs.Lists.{zeros, Wrote, Held}
@@ -18,7 +18,7 @@ use Rattle.cells.specs.Cells.{Cells, cellsRefusal, codesRefusal}
 use Rattle.cells.proofs.Given.{cells-in}
 use Rattle.grid.specs.Lines.{cellsOf, linesOf, Sound}
 use Rattle.grid.proofs.Lines.{cells-linesOf, sound-linesOf}
-use Rattle.hint.specs.Refused.{noLimit, limitRefusal, checkRefusal, planRefusal}
+use Rattle.hint.specs.Refused.{limitRefusal, checkRefusal, planRefusal}
 
 pub check-cells : (cells : List ℕ) (colour : ℕ) (list : List ℕ) → checkRefusal cells colour list ≡ 0 → Cells cells
 unfolding checkRefusal

@@ -119,7 +119,8 @@ module _ (r : Player) (cells : List ℕ) (e : ℕ) (long : length cells ≡ 225)
         (λ t. let (q, hq, u) = any-elim 225 (completes r (put r cells e)) t in
         any-intro 225 (isFourEye r (put r cells e) e) q hq (by-the-stone q hq u))
         (λ t. let (q, hq, u) = any-elim 225 (isFourEye r (put r cells e) e) t in
-        any-intro 225 (completes r (put r cells e)) q hq (eye-completes r (put r cells e) q (length-set cells e (colourNo r) ∙ long) hq (eye-elim r (put r cells e) e q u)))
+        any-intro 225 (completes r (put r cells e)) q hq
+        (eye-completes r (put r cells e) q (length-set cells e (colourNo r) ∙ long) hq (eye-elim r (put r cells e) e q u)))
 
 -- after an attack at p and the reply at e, where before the attack the defender could complete nothing
 pub quiet-next : (side : Player) (cells : List ℕ) (p e : ℕ) → length cells ≡ 225 → p < 225 → T (isEmpty (getD cells p 0)) → e < 225

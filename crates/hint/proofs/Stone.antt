@@ -20,7 +20,7 @@ use Rattle.rules.specs.Fives.{makesFive}
 use Rattle.rules.specs.declared.Player.{Player}
 use Rattle.rules.specs.declared.Player.the-variants.{Black, White}
 use Rattle.rules.specs.declared.RowKind.the-variants.{Four, Five}
-use Rattle.rules.proofs.Logic.{true-T, along, not-false, false-not, and-left, and-right, and-intro, and-same, any-elim, any-intro, not-intro, not-elim}
+use Rattle.rules.proofs.Logic.{true-T, along, not-false, false-not, and-left, and-right, and-intro, and-same, any-elim, any-intro}
 use Rattle.rules.proofs.Address.{line-here, cell-here, point-here, line-there, cell-there, size-le}
 use Rattle.rules.proofs.Rows.{stone-here, stone-in, rowOn-inside}
 use Rattle.rules.proofs.Changes.{stone-on, stone-off}

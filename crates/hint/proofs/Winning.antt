@@ -24,7 +24,8 @@ use Rattle.rules.proofs.Rows.{start-lt}
 use Rattle.rules.proofs.Fuel.{strictOf-plain}
 use Rattle.hint.specs.Hint.{hasFive, goesOn, legal, Answered, Wins, completes, mayAttack, isFourEye, eyesFrom, endsBy, endsAt}
 use Rattle.hint.specs.Hint.{onlyEye, forces, afterBoth, reachesEnd, acceptable, attacks}
-use Rattle.hint.proofs.Stone.{other-no, no-other, Completes, completes-five, five-made, no-five-by, no-completing-by, completes-empty, completes-elim}
+use Rattle.hint.proofs.Stone.{other-no, no-other, Completes, completes-five, five-made}
+use Rattle.hint.proofs.Stone.{no-five-by, no-completing-by, completes-empty, completes-elim}
 use Rattle.hint.proofs.Stone.{EyeAt, eye-elim, eye-empty, eye-completes, stands}
 use Rattle.hint.proofs.Picked.{Picked, eyes-picked}
 
@@ -230,8 +231,13 @@ module _ (r : Player) (cells : List ℕ) (p k : ℕ) (long : length cells ≡ 22
   forced-wins : (e : ℕ) → T (forces r cells p e) → (T (goesOn (afterBoth r cells p e)) → Wins r (suc k) (afterBoth r cells p e))
       → Wins r (suc (suc k)) cells
   unfolding forces endsAt endsBy onlyEye Wins
-  forced-wins e t next =
-      (on, p, attack-legal r cells p may, inr (by-eye (eyesFrom r board p) refl (eyes-picked r board p) (and-right (not (endsAt r cells p)) (onlyEye (eyesFrom r board p) e) t)))
+  forced-wins e t next = (
+    on,
+    p,
+    attack-legal r cells p may,
+    inr (by-eye (eyesFrom r board p) refl (eyes-picked r board p)
+        (and-right (not (endsAt r cells p)) (onlyEye (eyesFrom r board p) e) t)),
+  )
     where
       board : List ℕ
       board = put r cells p

@@ -30,7 +30,7 @@ goesOn cells = not (hasFive Black cells) && not (hasFive White cells)
 unfoldable pub legal : Player → List ℕ → ℕ → Bool
 legal side cells p = ltb p 225 && isEmpty (getD cells p 0) && (isWhite side || isNone (strictOf cells p))
 
--- What the defender may answer, the attacker to go on: each legal move; "a defender without a legal move passes".
+-- What the defender may answer, the attacker to go on: each legal move; a defender without a legal move passes.
 unfoldable pub Answered : Player → (List ℕ → Type 0) → List ℕ → Type 0
 Answered side next cells =
     ((q : ℕ) → T (legal (opponentOf side) cells q) → next (put (opponentOf side) cells q))

@@ -4,13 +4,10 @@ use mathlib.Core.List.{List}
 use Prim.Native.Nat.{ℕ}
 use lib.Dec.{leb}
 use lib.ListN.{length}
-use Rattle.rules.specs.Refusals.{noRoom, unless, first, colourRefusal}
+use Rattle.rules.specs.Refusals.{noRoom, noLimit, unless, first, colourRefusal}
 use Rattle.cells.specs.Cells.{cellsRefusal, codesRefusal}
 
 -- "21 for a limit outside 1 to 6"
-abbrev pub noLimit : ℕ
-noLimit = 21
-
 unfoldable pub limitRefusal : ℕ → ℕ
 limitRefusal n = unless (leb 1 n && leb n 6) noLimit
 

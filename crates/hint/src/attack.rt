@@ -2,9 +2,8 @@
 use super::eyes::eyes_by;
 use super::look::is_forbidden;
 use super::look::rows_for;
-use grid::add_on;
 use grid::cell_on;
-use grid::lift_on;
+use grid::mark_on;
 use near::some_row;
 use rules::Player;
 ghost use mathlib.Core.Path.{_≡_};
@@ -24,7 +23,7 @@ pub(crate) enum Attack {
     Forces(u8),
 }
 
-// The attack at a point: "only points where the attacker has a Sword or a Four through them can be attacks".
+// The attack at a point: only points where the attacker has a Sword or a Four through them can be attacks.
 pub(crate) fn attack_at(
     lines: &mut [u16; 144],
     table: &[u16; 900],
@@ -53,9 +52,9 @@ pub(crate) fn attack_at(
     if eyes.several {
         return Attack::Ends;
     }
-    add_on(lines, table, code, side);
+    mark_on(lines, table, code, side, true);
     let answer = answer_at(lines, table, eyes.first, side.opponent());
-    lift_on(lines, table, code, side);
+    mark_on(lines, table, code, side, false);
     answer
 }
 

@@ -19,7 +19,8 @@ ghost use Rattle.hint.specs.Seen.{rowOnKey};
 // Whether a line may begin: no five stands, and the defender has no point that completes one.
 pub(crate) fn is_open(lines: &[u16; 144], side: Player) -> bool
     requires { ⌜ Sound (now lines) ⌝ }
-    ensures { λ r. ⌜ r ≡ (goesOn (cellsOf (now (lines .entry))) && not (anyBelow 225 (completes (opponentOf side) (cellsOf (now (lines .entry)))))) ⌝ }
+    ensures { λ r. ⌜ r ≡ (goesOn (cellsOf (now (lines .entry)))
+        && not (anyBelow 225 (completes (opponentOf side) (cellsOf (now (lines .entry)))))) ⌝ }
 {
     if has_row(lines, Player::Black, RowKind::Five) {
         return false;

@@ -2,8 +2,7 @@
 // line is written to `out` once it is found, its last points first.
 use super::attack::Attack;
 use super::attack::attack_at;
-use grid::add_on;
-use grid::lift_on;
+use grid::mark_on;
 use rules::Player;
 ghost use mathlib.Core.Path.{_≡_};
 ghost use Prim.Native.Nat.{_+_, _-_, _*_, _≤_, _<_};
@@ -87,11 +86,11 @@ fn forced_on(
     if left == 1 {
         return 0;
     }
-    add_on(lines, table, code, side);
-    add_on(lines, table, eye, side.opponent());
+    mark_on(lines, table, code, side, true);
+    mark_on(lines, table, eye, side.opponent(), true);
     let n = plan_on(lines, table, side, left - 1, out, at + 2);
-    lift_on(lines, table, eye, side.opponent());
-    lift_on(lines, table, code, side);
+    mark_on(lines, table, eye, side.opponent(), false);
+    mark_on(lines, table, code, side, false);
     if n == 0 {
         return 0;
     }

@@ -90,6 +90,10 @@ apartLists = 19
 abbrev pub outsideSubset : ℕ
 outsideSubset = 20
 
+-- "21 for a limit outside 1 to 6"
+abbrev pub noLimit : ℕ
+noLimit = 21
+
 -- "22 for a side without stones"
 abbrev pub oneSided : ℕ
 oneSided = 22

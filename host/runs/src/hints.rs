@@ -25,10 +25,14 @@ pub struct Tally {
     pub first: Option<String>,
 }
 
-/// The two functions that are asked: a plan, and a check.
+/// A plan by cells, side, limit and room; a check by cells, side and list.
+pub type Plan = dyn Fn(&Cells, u8, u8, &mut [u8]) -> u32;
+pub type Check = dyn Fn(&Cells, u8, &[u8]) -> u32;
+
+/// The two functions that are asked.
 pub struct Host<'a> {
-    pub plan: &'a dyn Fn(&Cells, u8, u8, &mut [u8]) -> u32,
-    pub check: &'a dyn Fn(&Cells, u8, &[u8]) -> u32,
+    pub plan: &'a Plan,
+    pub check: &'a Check,
 }
 
 /// Ours.

@@ -3,8 +3,8 @@
 pub mod depth;
 pub mod differential;
 pub mod feed;
-pub mod mending;
 pub mod hints;
+pub mod mending;
 pub mod reading;
 pub mod sgf;
 pub mod stored;

@@ -15,7 +15,7 @@ const SHORT: Plan = Plan {
 };
 
 /// The refusals of each function, as the host interface lists them.
-const REFUSALS: [&[usize]; 28] = [
+const REFUSALS: [&[usize]; 29] = [
     &[1, 2, 3, 4, 13],
     &[9, 13],
     &[9, 13],
@@ -42,6 +42,7 @@ const REFUSALS: [&[usize]; 28] = [
     &[8, 9],
     &[9, 13],
     &[8, 13, 14],
+    &[9],
     &[1, 2, 5, 6, 7, 13],
     &[1, 2, 5, 6, 7, 13, 22],
 ];

@@ -16,20 +16,37 @@ is-forbidden-requires c κs = search needs
 
 returns : tie.Need-returns
 returns c =
-    answer-ends (c .before .before .before .args .defender) (cellsOf (c .before .before .before .args .lines .now)) (c .before .before .before .args .eye) (sym (c .before .is-forbidden .ensures) ∙ c .if1 .taken)
+    let at-is-forbidden = c .before in
+    let s = at-is-forbidden .before .before in
+    answer-ends (s .args .defender) (cellsOf (s .args .lines .now)) (s .args .eye)
+    (sym (at-is-forbidden .is-forbidden .ensures) ∙ c .if1 .taken)
 
 some-row-requires : tie.Need-some-row-requires
 some-row-requires c κs = search needs
 
 returns-2 : tie.Need-returns-2
 returns-2 c =
-    answer-no (c .before .before .before .before .before .before .args .defender) (cellsOf (c .before .before .before .before .before .before .args .lines .now)) (c .before .before .before .before .before .before .args .eye) (sym (c .before .before .before .before .is-forbidden .ensures) ∙ c .before .before .before .if1 .left)
-    (sym (some-told (c .before .before .before .before .before .before .args .defender) Sword (cellsOf (c .before .before .before .before .before .before .args .lines .now)) (c .before .before .before .before .before .before .args .eye) (c .before .before .before .before .before .rows-for .ensures .swords) (c .before .some-row .ensures)) ∙ c .if2 .taken)
+    let at-some-row = c .before in
+    let at-if1 = at-some-row .before .before in
+    let at-is-forbidden = at-if1 .before in
+    let at-rows-for = at-is-forbidden .before in
+    let s = at-rows-for .before in
+    answer-no (s .args .defender) (cellsOf (s .args .lines .now)) (s .args .eye)
+    (sym (at-is-forbidden .is-forbidden .ensures) ∙ at-if1 .if1 .left)
+    (sym (some-told (s .args .defender) Sword (cellsOf (s .args .lines .now)) (s .args .eye) (at-rows-for .rows-for .ensures .swords)
+    (at-some-row .some-row .ensures)) ∙ c .if2 .taken)
 
 returns-3 : tie.Need-returns-3
 returns-3 c =
-    answer-forces (c .before .before .before .before .before .before .args .defender) (cellsOf (c .before .before .before .before .before .before .args .lines .now)) (c .before .before .before .before .before .before .args .eye) (sym (c .before .before .before .before .is-forbidden .ensures) ∙ c .before .before .before .if1 .left)
-    (sym (some-told (c .before .before .before .before .before .before .args .defender) Sword (cellsOf (c .before .before .before .before .before .before .args .lines .now)) (c .before .before .before .before .before .before .args .eye) (c .before .before .before .before .before .rows-for .ensures .swords) (c .before .some-row .ensures)) ∙ c .if2 .left)
+    let at-some-row = c .before in
+    let at-if1 = at-some-row .before .before in
+    let at-is-forbidden = at-if1 .before in
+    let at-rows-for = at-is-forbidden .before in
+    let s = at-rows-for .before in
+    answer-forces (s .args .defender) (cellsOf (s .args .lines .now)) (s .args .eye)
+    (sym (at-is-forbidden .is-forbidden .ensures) ∙ at-if1 .if1 .left)
+    (sym (some-told (s .args .defender) Sword (cellsOf (s .args .lines .now)) (s .args .eye) (at-rows-for .rows-for .ensures .swords)
+    (at-some-row .some-row .ensures)) ∙ c .if2 .left)
 
 pub answer-at-spec : {M : Type 1} → statement M
 answer-at-spec =

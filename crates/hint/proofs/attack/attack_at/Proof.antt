@@ -27,11 +27,13 @@ cell-on-requires c κs =
     search needs
 
 returns : tie.Need-returns
-returns c = (
-  taken-no (c .before .before .before .args .side) (cellsOf (c .before .before .before .args .lines .now)) (c .before .before .before .args .code)
-      (taken-there (c .before .before .before .args .lines .now) (c .before .before .before .args .code) (c .before .before .before .pre .1) (c .before .cell-on .ensures) (c .if1 .taken)),
-  refl,
-)
+returns c =
+    let at-cell-on = c .before in
+    let s = at-cell-on .before .before in (
+      taken-no (s .args .side) (cellsOf (s .args .lines .now)) (s .args .code)
+          (taken-there (s .args .lines .now) (s .args .code) (s .pre .1) (at-cell-on .cell-on .ensures) (c .if1 .taken)),
+      refl,
+    )
 
 rows-for-requires : tie.Need-rows-for-requires
 rows-for-requires c κs =
@@ -43,12 +45,16 @@ some-row-requires c κs =
 
 returns-2 : tie.Need-returns-2
 returns-2 c =
-    let s = c .before .before .before .before .before .before .before .before in
+    let at-some-row = c .before in
+    let at-rows-for = at-some-row .before .before in
+    let at-if1 = at-rows-for .before .before in
+    let at-cell-on = at-if1 .before in
+    let s = at-cell-on .before .before in
     let C = cellsOf (s .args .lines .now) in
     let p = s .args .code in
-    let z = free-there (s .args .lines .now) p (s .pre .1) (c .before .before .before .before .before .before .cell-on .ensures) (c .before .before .before .before .before .if1 .left) in (
+    let z = free-there (s .args .lines .now) p (s .pre .1) (at-cell-on .cell-on .ensures) (at-if1 .if1 .left) in (
       five-ends (s .args .side) C p (length-cellsOf (s .args .lines .now)) (s .pre .1) (zero-empty z) (s .pre .3)
-          (sym (some-told (s .args .side) Four C p (c .before .before .before .rows-for .ensures .fours) (c .before .some-row .ensures)) ∙ c .if2 .taken),
+          (sym (some-told (s .args .side) Four C p (at-rows-for .rows-for .ensures .fours) (at-some-row .some-row .ensures)) ∙ c .if2 .taken),
       refl,
     )
 
@@ -58,59 +64,95 @@ some-row-requires-2 c κs =
 
 returns-3 : tie.Need-returns-3
 returns-3 c =
-    let s = c .before .before .before .before .before .before .before .before .before .before .before in
+    let at-some-row2 = c .before in
+    let at-if2 = at-some-row2 .before .before in
+    let at-some-row = at-if2 .before in
+    let at-rows-for = at-some-row .before .before in
+    let at-if1 = at-rows-for .before .before in
+    let at-cell-on = at-if1 .before in
+    let s = at-cell-on .before .before in
     let C = cellsOf (s .args .lines .now) in
     let p = s .args .code in
-    let z = free-there (s .args .lines .now) p (s .pre .1) (c .before .before .before .before .before .before .before .before .before .cell-on .ensures) (c .before .before .before .before .before .before .before .before .if1 .left) in (
+    let z = free-there (s .args .lines .now) p (s .pre .1) (at-cell-on .cell-on .ensures) (at-if1 .if1 .left) in (
       no-sword-no (s .args .side) C p (length-cellsOf (s .args .lines .now)) (s .pre .1) (zero-empty z) (s .pre .3)
-          (sym (some-told (s .args .side) Four C p (c .before .before .before .before .before .before .rows-for .ensures .fours) (c .before .before .before .before .some-row .ensures)) ∙ c .before .before .before .if2 .left)
-          (sym (some-told (s .args .side) Sword C p (c .before .before .before .before .before .before .rows-for .ensures .swords) (c .before .some-row2 .ensures)) ∙ not-on (c .if3 .taken)),
+          (sym (some-told (s .args .side) Four C p (at-rows-for .rows-for .ensures .fours) (at-some-row .some-row .ensures)) ∙ at-if2 .if2 .left)
+          (sym (some-told (s .args .side) Sword C p (at-rows-for .rows-for .ensures .swords) (at-some-row2 .some-row2 .ensures)) ∙ not-on
+          (c .if3 .taken)),
       refl,
     )
 
 is-forbidden-requires : tie.Need-is-forbidden-requires
 is-forbidden-requires c κs =
-    let s = c .before .before .before .before .before .before .before .before .before .before .before .before in
-    (s .pre .0, s .pre .1, free-there (s .args .lines .now) (s .args .code) (s .pre .1) (c .before .before .before .before .before .before .before .before .before .before .cell-on .ensures) (c .before .before .before .before .before .before .before .before .before .if1 .left), c .before .before .before .before .before .before .before .rows-for .ensures)
+    let at-rows-for = c .before .before .before .before .before .before .before in
+    let at-if1 = at-rows-for .before .before in
+    let at-cell-on = at-if1 .before in
+    let s = at-cell-on .before .before in (
+      s .pre .0,
+      s .pre .1,
+      free-there (s .args .lines .now) (s .args .code) (s .pre .1) (at-cell-on .cell-on .ensures)
+          (at-if1 .if1 .left),
+      at-rows-for .rows-for .ensures,
+    )
 
 returns-4 : tie.Need-returns-4
 returns-4 c =
-    let s = c .before .before .before .before .before .before .before .before .before .before .before .before .before .before in
+    let at-is-forbidden = c .before in
+    let at-if2 = at-is-forbidden .before .before .before .before .before in
+    let at-some-row = at-if2 .before in
+    let at-rows-for = at-some-row .before .before in
+    let at-if1 = at-rows-for .before .before in
+    let at-cell-on = at-if1 .before in
+    let s = at-cell-on .before .before in
     let C = cellsOf (s .args .lines .now) in
     let p = s .args .code in
-    let z = free-there (s .args .lines .now) p (s .pre .1) (c .before .before .before .before .before .before .before .before .before .before .before .before .cell-on .ensures) (c .before .before .before .before .before .before .before .before .before .before .before .if1 .left) in (
+    let z = free-there (s .args .lines .now) p (s .pre .1) (at-cell-on .cell-on .ensures) (at-if1 .if1 .left) in (
       forbidden-no (s .args .side) C p (length-cellsOf (s .args .lines .now)) (s .pre .1) (zero-empty z) (s .pre .3)
-          (sym (some-told (s .args .side) Four C p (c .before .before .before .before .before .before .before .before .before .rows-for .ensures .fours) (c .before .before .before .before .before .before .before .some-row .ensures)) ∙ c .before .before .before .before .before .before .if2 .left)
-          (sym (c .before .is-forbidden .ensures) ∙ c .if4 .taken),
+          (sym (some-told (s .args .side) Four C p (at-rows-for .rows-for .ensures .fours) (at-some-row .some-row .ensures)) ∙ at-if2 .if2 .left)
+          (sym (at-is-forbidden .is-forbidden .ensures) ∙ c .if4 .taken),
       refl,
     )
 
 eyes-by-requires : tie.Need-eyes-by-requires
 eyes-by-requires c κs =
-    let s = c .before .before .before .before .before .before .before .before .before .before .before .before .before .before .before in (
+    let at-if3 = c .before .before .before .before in
+    let at-some-row2 = at-if3 .before in
+    let at-rows-for = at-some-row2 .before .before .before .before .before in
+    let at-if1 = at-rows-for .before .before in
+    let at-cell-on = at-if1 .before in
+    let s = at-cell-on .before .before in (
       s .pre .0,
       s .pre .1,
-      free-there (s .args .lines .now) (s .args .code) (s .pre .1) (c .before .before .before .before .before .before .before .before .before .before .before .before .before .cell-on .ensures) (c .before .before .before .before .before .before .before .before .before .before .before .before .if1 .left),
+      free-there (s .args .lines .now) (s .args .code) (s .pre .1) (at-cell-on .cell-on .ensures)
+          (at-if1 .if1 .left),
       s .pre .2,
-      c .before .before .before .before .before .before .before .before .before .before .rows-for .ensures .swords,
-      true-T (sym (some-told (s .args .side) Sword (cellsOf (s .args .lines .now)) (s .args .code) (c .before .before .before .before .before .before .before .before .before .before .rows-for .ensures .swords) (c .before .before .before .before .before .some-row2 .ensures))
-          ∙ is-on (c .before .before .before .before .if3 .left)),
+      at-rows-for .rows-for .ensures .swords,
+      true-T (sym (some-told (s .args .side) Sword (cellsOf (s .args .lines .now)) (s .args .code) (at-rows-for .rows-for .ensures .swords)
+          (at-some-row2 .some-row2 .ensures))
+          ∙ is-on (at-if3 .if3 .left)),
     )
 
 returns-5 : tie.Need-returns-5
 returns-5 c =
-    let s = c .before .before .before .before .before .before .before .before .before .before .before .before .before .before .before .before .before in
+    let at-eyes-by = c .before in
+    let at-if4 = at-eyes-by .before .before in
+    let at-is-forbidden = at-if4 .before in
+    let at-if2 = at-is-forbidden .before .before .before .before .before in
+    let at-some-row = at-if2 .before in
+    let at-rows-for = at-some-row .before .before in
+    let at-if1 = at-rows-for .before .before in
+    let at-cell-on = at-if1 .before in
+    let s = at-cell-on .before .before in
     let C = cellsOf (s .args .lines .now) in
     let p = s .args .code in
-    let z = free-there (s .args .lines .now) p (s .pre .1) (c .before .before .before .before .before .before .before .before .before .before .before .before .before .before .before .cell-on .ensures) (c .before .before .before .before .before .before .before .before .before .before .before .before .before .before .if1 .left) in (
+    let z = free-there (s .args .lines .now) p (s .pre .1) (at-cell-on .cell-on .ensures) (at-if1 .if1 .left) in (
       several-ends (s .args .side) C p (length-cellsOf (s .args .lines .now)) (s .pre .1) (zero-empty z) (s .pre .3)
-          (sym (some-told (s .args .side) Four C p (c .before .before .before .before .before .before .before .before .before .before .before .before .rows-for .ensures .fours) (c .before .before .before .before .before .before .before .before .before .before .some-row .ensures)) ∙ c .before .before .before .before .before .before .before .before .before .if2 .left)
-          (sym (c .before .before .before .before .is-forbidden .ensures) ∙ c .before .before .before .if4 .left) (c .before .eyes-by .ensures) (c .if5 .taken),
+          (sym (some-told (s .args .side) Four C p (at-rows-for .rows-for .ensures .fours) (at-some-row .some-row .ensures)) ∙ at-if2 .if2 .left)
+          (sym (at-is-forbidden .is-forbidden .ensures) ∙ at-if4 .if4 .left) (at-eyes-by .eyes-by .ensures) (c .if5 .taken),
       refl,
     )
 
-add-on-requires : tie.Need-add-on-requires
-add-on-requires c κs =
+mark-on-requires : tie.Need-mark-on-requires
+mark-on-requires c κs =
     search needs
 
 opponent-requires : tie.Need-opponent-requires
@@ -119,41 +161,67 @@ opponent-requires c κs =
 
 answer-at-requires : tie.Need-answer-at-requires
 answer-at-requires c κs =
-    let s = c .before .before .before .before .before .before .before .before .before .before .before .before .before .before .before .before .before .before .before .before .before in
+    let at-mark-on = c .before .before in
+    let at-if5 = at-mark-on .before .before in
+    let at-eyes-by = at-if5 .before in
+    let at-if4 = at-eyes-by .before .before in
+    let at-is-forbidden = at-if4 .before in
+    let at-if2 = at-is-forbidden .before .before .before .before .before in
+    let at-some-row = at-if2 .before in
+    let at-rows-for = at-some-row .before .before in
+    let at-if1 = at-rows-for .before .before in
+    let at-cell-on = at-if1 .before in
+    let s = at-cell-on .before .before in
     let l = s .args .lines .now in
     let C = cellsOf l in
     let p = s .args .code in
     let r = s .args .side in
-    let z = free-there l p (s .pre .1) (c .before .before .before .before .before .before .before .before .before .before .before .before .before .before .before .before .before .before .before .cell-on .ensures) (c .before .before .before .before .before .before .before .before .before .before .before .before .before .before .before .before .before .before .if1 .left) in
-    let no-five = sym (some-told r Four C p (c .before .before .before .before .before .before .before .before .before .before .before .before .before .before .before .before .rows-for .ensures .fours) (c .before .before .before .before .before .before .before .before .before .before .before .before .before .before .some-row .ensures)) ∙ c .before .before .before .before .before .before .before .before .before .before .before .before .before .if2 .left in
-    let allowed = sym (c .before .before .before .before .before .before .before .before .is-forbidden .ensures) ∙ c .before .before .before .before .before .before .before .if4 .left in
-    let eye = c .before .before .before .before .before .eyes-by .ensures .one (c .before .before .before .before .if5 .left) in
+    let z = free-there l p (s .pre .1) (at-cell-on .cell-on .ensures) (at-if1 .if1 .left) in
+    let no-five = sym (some-told r Four C p (at-rows-for .rows-for .ensures .fours) (at-some-row .some-row .ensures)) ∙ at-if2 .if2 .left in
+    let allowed = sym (at-is-forbidden .is-forbidden .ensures) ∙ at-if4 .if4 .left in
+    let eye = at-eyes-by .eyes-by .ensures .one (at-if5 .if5 .left) in
     let lt = eye-lt r C p (length-cellsOf l) (s .pre .1) (zero-empty z) (s .pre .3) no-five allowed _ eye in (
-      put-sound r l _ p (s .pre .0) (s .pre .1) z (s .pre .2) (c .before .before .add-on .ensures),
+      put-sound r l _ p (s .pre .0) (s .pre .1) z (s .pre .2) (at-mark-on .mark-on .ensures),
       lt,
-      empty-is _ _ lt (rw (put-cells r l _ p (s .pre .0) (s .pre .1) z (s .pre .2) (c .before .before .add-on .ensures))
+      empty-is _ _ lt (rw (put-cells r l _ p (s .pre .0) (s .pre .1) z (s .pre .2) (at-mark-on .mark-on .ensures))
           (eye-free r C p (length-cellsOf l) (s .pre .1) (zero-empty z) (s .pre .3) no-five allowed _ eye)),
       s .pre .2,
     )
 
-lift-on-requires : tie.Need-lift-on-requires
-lift-on-requires c κs =
+mark-on-requires-2 : tie.Need-mark-on-requires-2
+mark-on-requires-2 c κs =
     search needs
 
 returns-6 : tie.Need-returns-6
 returns-6 c =
-    let s = c .before .before .before .before .before .before .before .before .before .before .before .before .before .before .before .before .before .before .before .before .before .before .before .before in
+    let at-answer-at = c .before .before in
+    let at-opponent = at-answer-at .before in
+    let at-mark-on = at-opponent .before .before in
+    let at-if5 = at-mark-on .before .before in
+    let at-eyes-by = at-if5 .before in
+    let at-if4 = at-eyes-by .before .before in
+    let at-is-forbidden = at-if4 .before in
+    let at-if2 = at-is-forbidden .before .before .before .before .before in
+    let at-some-row = at-if2 .before in
+    let at-rows-for = at-some-row .before .before in
+    let at-if1 = at-rows-for .before .before in
+    let at-cell-on = at-if1 .before in
+    let s = at-cell-on .before .before in
     let l = s .args .lines .now in
     let C = cellsOf l in
     let p = s .args .code in
     let r = s .args .side in
-    let z = free-there l p (s .pre .1) (c .before .before .before .before .before .before .before .before .before .before .before .before .before .before .before .before .before .before .before .before .before .before .cell-on .ensures) (c .before .before .before .before .before .before .before .before .before .before .before .before .before .before .before .before .before .before .before .before .before .if1 .left) in
-    let no-five = sym (some-told r Four C p (c .before .before .before .before .before .before .before .before .before .before .before .before .before .before .before .before .before .before .before .rows-for .ensures .fours) (c .before .before .before .before .before .before .before .before .before .before .before .before .before .before .before .before .before .some-row .ensures)) ∙ c .before .before .before .before .before .before .before .before .before .before .before .before .before .before .before .before .if2 .left in
-    let allowed = sym (c .before .before .before .before .before .before .before .before .before .before .before .is-forbidden .ensures) ∙ c .before .before .before .before .before .before .before .before .before .before .if4 .left in
-    let eye = c .before .before .before .before .before .before .before .before .eyes-by .ensures .one (c .before .before .before .before .before .before .before .if5 .left) in (
+    let z = free-there l p (s .pre .1) (at-cell-on .cell-on .ensures) (at-if1 .if1 .left) in
+    let no-five = sym (some-told r Four C p (at-rows-for .rows-for .ensures .fours) (at-some-row .some-row .ensures)) ∙ at-if2 .if2 .left in
+    let allowed = sym (at-is-forbidden .is-forbidden .ensures) ∙ at-if4 .if4 .left in
+    let eye = at-eyes-by .eyes-by .ensures .one (at-if5 .if5 .left) in (
       answered r C p (length-cellsOf l) (s .pre .1) (zero-empty z) (s .pre .3) no-five allowed _ eye _
-          (rw (sym (put-cells r l _ p (s .pre .0) (s .pre .1) z (s .pre .2) (c .before .before .before .before .before .add-on .ensures)), sym (c .before .before .before .opponent .ensures)) (c .before .before .answer-at .ensures)),
-      put-back r l _ p (s .pre .0) (s .pre .1) z (s .pre .2) (c .before .before .before .before .before .add-on .ensures) refl (c .lift-on .ensures),
+          (rw (
+            sym (put-cells r l _ p (s .pre .0) (s .pre .1) z (s .pre .2) (at-mark-on .mark-on .ensures)),
+            sym
+                (at-opponent .opponent .ensures),
+          ) (at-answer-at .answer-at .ensures)),
+      put-back r l _ p (s .pre .0) (s .pre .1) z (s .pre .2) (at-mark-on .mark-on .ensures) refl (c .mark-on2 .ensures),
     )
 
 pub attack-at-spec : {M : Type 1} → statement M
@@ -171,8 +239,8 @@ attack-at-spec =
     returns-4
     eyes-by-requires
     returns-5
-    add-on-requires
+    mark-on-requires
     opponent-requires
     answer-at-requires
-    lift-on-requires
+    mark-on-requires-2
     returns-6)

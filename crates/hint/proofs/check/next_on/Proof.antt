@@ -22,14 +22,17 @@ add-next c =
 
 returns : tie.Need-returns
 returns c =
-    let a = c .before .before .before .args in (
-      next-stop (a .side) _ _ _ _ (no-point (a .side) (cellsOf (a .lines .now)) _ (c .if1 .taken) _ _ (drop-next (a .list .now) (a .at) (c .before .before .before .pre .3))),
+    let s = c .before .before .before in
+    let a = s .args in (
+      next-stop (a .side) _ _ _ _
+          (no-point (a .side) (cellsOf (a .lines .now)) _ (c .if1 .taken) _ _ (drop-next (a .list .now) (a .at) (s .pre .3))),
       λ q. absurd (no-true q),
     )
 
 attack-at-requires : tie.Need-attack-at-requires
 attack-at-requires c κs =
-    (c .before .before .before .before .pre .0, omega arith, c .before .before .before .before .pre .1, c .before .before .before .before .pre .2)
+    let s = c .before .before .before .before in
+    (s .pre .0, omega arith, s .pre .1, s .pre .2)
 
 enum-told : tie.Need-enum-told
 enum-told c =
@@ -45,38 +48,51 @@ enum-known-eye c =
 
 reply-on-requires : tie.Need-reply-on-requires
 reply-on-requires c κs =
-    let a = c .before .before .before .before .before .before .before .before .before .args in
-    let h = c .before .before .before .before .before .before .before .before .before .pre .3 in (
-      rw (c .before .before .before .before .attack-at .ensures .1) (c .before .before .before .before .before .before .before .before .before .pre .0),
-      c .before .before .before .before .before .before .before .before .before .pre .1,
-      rw (c .before .before .before .before .attack-at .ensures .1)
-          (at-forced (a .side) (cellsOf (a .lines .now)) _ (c .before .before .before .before .attack-at .ensures .0) (c .before .before .eye .given .1)),
+    let at-eye = c .before .before in
+    let at-attack-at = at-eye .before .before in
+    let s = at-attack-at .before .before .before .before .before in
+    let a = s .args in
+    let h = s .pre .3 in (
+      rw (at-attack-at .attack-at .ensures .1) (s .pre .0),
+      s .pre .1,
+      rw (at-attack-at .attack-at .ensures .1)
+          (at-forced (a .side) (cellsOf (a .lines .now)) _ (at-attack-at .attack-at .ensures .0) (at-eye .eye .given .1)),
       omega arith,
     )
 
 returns-2 : tie.Need-returns-2
 returns-2 c =
-    let a = c .before .before .before .before .before .before .before .args in (
-      next-stop (a .side) _ _ _ _ (at-no (a .side) (cellsOf (a .lines .now)) _ (c .before .before .attack-at .ensures .0) (c .enum-told .given .1) _
-          ∙ ap (reachesEnd (a .side) (cellsOf (a .lines .now))) (sym (drop-next (a .list .now) (a .at) (c .before .before .before .before .before .before .before .pre .3)))),
+    let at-attack-at = c .before .before in
+    let s = at-attack-at .before .before .before .before .before in
+    let a = s .args in (
+      next-stop (a .side) _ _ _ _
+          (at-no (a .side) (cellsOf (a .lines .now)) _ (at-attack-at .attack-at .ensures .0) (c .enum-told .given .1) _
+          ∙ ap (reachesEnd (a .side) (cellsOf (a .lines .now))) (sym (drop-next (a .list .now) (a .at) (s .pre .3)))),
       λ q. absurd (no-true q),
     )
 
 returns-3 : tie.Need-returns-3
 returns-3 c =
-    let a = c .before .before .before .before .before .before .before .args in
-    let h = c .before .before .before .before .before .before .before .pre .3 in (
-      next-stop (a .side) _ _ _ _ (at-ends (a .side) (cellsOf (a .lines .now)) _ (c .before .before .attack-at .ensures .0) (c .enum-told2 .given .1) (a .list .now) (a .at + 1) (omega arith)
-          ∙ ap (reachesEnd (a .side) (cellsOf (a .lines .now))) (sym (drop-next (a .list .now) (a .at) (c .before .before .before .before .before .before .before .pre .3)))),
+    let at-attack-at = c .before .before in
+    let s = at-attack-at .before .before .before .before .before in
+    let a = s .args in
+    let h = s .pre .3 in (
+      next-stop (a .side) _ _ _ _
+          (at-ends (a .side) (cellsOf (a .lines .now)) _ (at-attack-at .attack-at .ensures .0) (c .enum-told2 .given .1) (a .list .now)
+          (a .at + 1) (omega arith)
+          ∙ ap (reachesEnd (a .side) (cellsOf (a .lines .now))) (sym (drop-next (a .list .now) (a .at) (s .pre .3)))),
       λ q. absurd (no-true q),
     )
 
 returns-4 : tie.Need-returns-4
 returns-4 c =
-    let a = c .before .before .before .before .before .before .before .before .before .before .args in
+    let at-attack-at = c .before .before .before .before .before in
+    let s = at-attack-at .before .before .before .before .before in
+    let a = s .args in
     let r = c .reply-on .ensures in
     let two : a .at + 1 + 1 ≡ a .at + 2 = omega arith in (
-      next-moved (a .side) (c .before .before .before .before .before .attack-at .ensures .1) (sym (drop-next (a .list .now) (a .at) (c .before .before .before .before .before .before .before .before .before .before .pre .3))) (ap (λ (n : ℕ). drop n (a .list .now)) two) (r .0),
+      next-moved (a .side) (at-attack-at .attack-at .ensures .1) (sym (drop-next (a .list .now) (a .at) (s .pre .3)))
+          (ap (λ (n : ℕ). drop n (a .list .now)) two) (r .0),
       λ q. let g = r .1 q in omega arith,
     )
 

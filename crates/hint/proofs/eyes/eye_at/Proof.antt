@@ -28,20 +28,35 @@ point-at-requires c κs = search needs
 
 cast-result : tie.Need-cast-result
 cast-result c =
-    let s = c .before .before .before .before .before .before in
+    let at-gap-from = c .before in
+    let at-line-no = at-gap-from .before in
+    let at-set-bit = at-line-no .before in
+    let at-mask-on = at-set-bit .before in
+    let at-address-by = at-mask-on .before in
+    let s = at-address-by .before in
     omega (
       arith,
-      eye-byte (s .args .side) (s .args .lines .now) (s .args .code) (s .args .sword / 16) (s .args .sword % 16) (s .pre .0) (s .pre .1)
-          (s .pre .2) (omega (arith, s .pre .4)) (s .pre .5) (by-addresses (s .args .sword / 16) (s .args .code) (c .before .before .before .before .before .address-by .ensures) (s .pre .3))
-          (c .before .before .before .before .mask-on .ensures) (c .before .before .before .set-bit .ensures) (c .before .before .line-no .ensures) (c .before .gap-from .ensures) (c .point-at .ensures),
+      eye-byte (s .args .side) (s .args .lines .now) (s .args .code) (s .args .sword / 16) (s .args .sword % 16) (s .pre .0)
+          (s .pre .1)
+          (s .pre .2) (omega (arith, s .pre .4)) (s .pre .5)
+          (by-addresses (s .args .sword / 16) (s .args .code) (at-address-by .address-by .ensures) (s .pre .3))
+          (at-mask-on .mask-on .ensures) (at-set-bit .set-bit .ensures) (at-line-no .line-no .ensures) (at-gap-from .gap-from .ensures)
+          (c .point-at .ensures),
     )
 
 returns : tie.Need-returns
 returns c =
-    let s = c .before .before .before .before .before .before in
+    let at-gap-from = c .before in
+    let at-line-no = at-gap-from .before in
+    let at-set-bit = at-line-no .before in
+    let at-mask-on = at-set-bit .before in
+    let at-address-by = at-mask-on .before in
+    let s = at-address-by .before in
     eye-found (s .args .side) (s .args .lines .now) (s .args .code) (s .args .sword / 16) (s .args .sword % 16) (s .pre .0) (s .pre .1)
-    (s .pre .2) (omega (arith, s .pre .4)) (s .pre .5) (by-addresses (s .args .sword / 16) (s .args .code) (c .before .before .before .before .before .address-by .ensures) (s .pre .3))
-    (c .before .before .before .before .mask-on .ensures) (c .before .before .before .set-bit .ensures) (c .before .before .line-no .ensures) (c .before .gap-from .ensures) (c .point-at .ensures)
+    (s .pre .2) (omega (arith, s .pre .4)) (s .pre .5)
+    (by-addresses (s .args .sword / 16) (s .args .code) (at-address-by .address-by .ensures) (s .pre .3))
+    (at-mask-on .mask-on .ensures) (at-set-bit .set-bit .ensures) (at-line-no .line-no .ensures) (at-gap-from .gap-from .ensures)
+    (c .point-at .ensures)
 
 pub eye-at-spec : {M : Type 1} → statement M
 eye-at-spec =

@@ -31,23 +31,31 @@ eye-at-requires c κs =
 
 loop-holds : tie.Need-loop-holds Inv-loop μ-loop
 loop-holds c =
-    let s = c .before .before in
+    let at-next-start = c .before in
+    let s = at-next-start .before in
     agree-first (s .args .side) (cellsOf (s .args .lines .now)) (s .args .code) (length-cellsOf (s .args .lines .now)) (s .pre .1)
-    (zero-empty (s .pre .2)) (s .pre .4) _ (c .before .next-start .ensures)
+    (zero-empty (s .pre .2)) (s .pre .4) _ (at-next-start .next-start .ensures)
 
 eye-at-requires-2 : tie.Need-eye-at-requires-2 Inv-loop μ-loop
 eye-at-requires-2 c κs =
-    let s = c .before .before .before .before in
-    (s .pre .0, s .pre .1, s .pre .2, s .pre .3, c .loop-test .taken, c .before .loop .inv .here (c .loop-test .taken))
+    let at-loop = c .before in
+    let s = at-loop .before .before .before in
+    (s .pre .0, s .pre .1, s .pre .2, s .pre .3, c .loop-test .taken, at-loop .loop .inv .here (c .loop-test .taken))
 
 returns : tie.Need-returns Inv-loop μ-loop
 returns c =
-    let s = c .before .before .before .before .before .before in
+    let at-eye-at2 = c .before in
+    let at-loop-test = at-eye-at2 .before in
+    let at-loop = at-loop-test .before in
+    let at-eye-at = at-loop .before in
+    let at-next-start = at-eye-at .before in
+    let s = at-next-start .before in
     let f = first-sword (s .args .side) (cellsOf (s .args .lines .now)) (s .args .code) (length-cellsOf (s .args .lines .now)) (s .pre .1)
-    (zero-empty (s .pre .2)) (s .pre .4) (s .pre .5) (c .before .before .before .before .before .next-start .ensures) in
+    (zero-empty (s .pre .2)) (s .pre .4) (s .pre .5) (at-next-start .next-start .ensures) in
     several-eyes (s .args .side) (cellsOf (s .args .lines .now)) (s .args .code) (length-cellsOf (s .args .lines .now)) (s .pre .1)
-    (zero-empty (s .pre .2)) (c .before .before .before .before .before .next-start .result) (c .before .before .before .loop .sword) (f .0) (c .before .before .loop-test .taken) (f .1) (c .before .before .before .loop .inv .here (c .before .before .loop-test .taken))
-    (λ e. c .if1 .taken (c .before .eye-at2 .ensures ∙ e ∙ sym (c .before .before .before .before .eye-at .ensures))) _
+    (zero-empty (s .pre .2)) (at-next-start .next-start .result) (at-loop .loop .sword) (f .0) (at-loop-test .loop-test .taken) (f .1)
+    (at-loop .loop .inv .here (at-loop-test .loop-test .taken))
+    (λ e. c .if1 .taken (at-eye-at2 .eye-at2 .ensures ∙ e ∙ sym (at-eye-at .eye-at .ensures))) _
 
 add-next-start : tie.Need-add-next-start Inv-loop μ-loop
 add-next-start c =
@@ -59,22 +67,33 @@ next-start-requires-2 c κs =
 
 loop-less : tie.Need-loop-less Inv-loop μ-loop
 loop-less c =
-    walk-less _ (c .before .before .before .before .loop .sword) (c .before .before .before .loop-test .taken) (c .next-start2 .ensures)
+    let at-loop-test = c .before .before .before in
+    let at-loop = at-loop-test .before in
+    walk-less _ (at-loop .loop .sword) (at-loop-test .loop-test .taken) (c .next-start2 .ensures)
 
 loop-again : tie.Need-loop-again Inv-loop μ-loop
 loop-again c =
-    let s = c .before .before .before .before .before .before .before in
+    let at-if1 = c .before in
+    let at-eye-at2 = at-if1 .before in
+    let at-loop-test = at-eye-at2 .before in
+    let at-loop = at-loop-test .before in
+    let s = at-loop .before .before .before in
     agree-next (s .args .side) (cellsOf (s .args .lines .now)) (s .args .code) (length-cellsOf (s .args .lines .now)) (s .pre .1)
-    (zero-empty (s .pre .2)) (s .pre .4) _ (c .before .before .before .before .loop .sword) (c .before .before .before .before .loop .inv) (c .before .before .before .loop-test .taken) (sym (c .before .before .eye-at2 .ensures) ∙ c .before .if1 .left)
+    (zero-empty (s .pre .2)) (s .pre .4) _ (at-loop .loop .sword) (at-loop .loop .inv) (at-loop-test .loop-test .taken)
+    (sym (at-eye-at2 .eye-at2 .ensures) ∙ at-if1 .if1 .left)
     (c .next-start2 .ensures)
 
 returns-2 : tie.Need-returns-2 Inv-loop μ-loop
 returns-2 c =
-    let s = c .before .before .before .before in
+    let at-loop = c .before in
+    let at-eye-at = at-loop .before in
+    let at-next-start = at-eye-at .before in
+    let s = at-next-start .before in
     let f = first-sword (s .args .side) (cellsOf (s .args .lines .now)) (s .args .code) (length-cellsOf (s .args .lines .now)) (s .pre .1)
-    (zero-empty (s .pre .2)) (s .pre .4) (s .pre .5) (c .before .before .before .next-start .ensures) in
+    (zero-empty (s .pre .2)) (s .pre .4) (s .pre .5) (at-next-start .next-start .ensures) in
     one-eye (s .args .side) (cellsOf (s .args .lines .now)) (s .args .code) (length-cellsOf (s .args .lines .now)) (s .pre .1)
-    (zero-empty (s .pre .2)) (c .before .before .before .next-start .result) _ (f .0) (f .1) (c .before .before .eye-at .ensures) (c .before .loop .sword) (omega arith) (c .before .loop .inv)
+    (zero-empty (s .pre .2)) (at-next-start .next-start .result) _ (f .0) (f .1) (at-eye-at .eye-at .ensures) (at-loop .loop .sword)
+    (omega arith) (at-loop .loop .inv)
 
 pub eyes-by-spec : {M : Type 1} → statement M
 eyes-by-spec =

@@ -11,7 +11,9 @@ bit-at-requires c κs = search needs
 
 returns : tie.Need-returns
 returns c =
-    gap-0 (bit (c .before .before .args .stones)) (c .before .before .args .j) (sym (c .before .bit-at .ensures) ∙ not-on (c .if1 .taken))
+    let at-bit-at = c .before in
+    let s = at-bit-at .before in
+    gap-0 (bit (s .args .stones)) (s .args .j) (sym (at-bit-at .bit-at .ensures) ∙ not-on (c .if1 .taken))
 
 add-bit-at : tie.Need-add-bit-at
 add-bit-at c = search needs
@@ -24,7 +26,12 @@ add-result c = search needs
 
 returns-2 : tie.Need-returns-2
 returns-2 c =
-    gap-1 (bit (c .before .before .before .before .args .stones)) (c .before .before .before .before .args .j) (sym (c .before .before .before .bit-at .ensures) ∙ is-on (c .before .before .if1 .left)) (sym (c .before .bit-at2 .ensures) ∙ not-on (c .if2 .taken))
+    let at-bit-at2 = c .before in
+    let at-if1 = at-bit-at2 .before in
+    let at-bit-at = at-if1 .before in
+    let s = at-bit-at .before in
+    gap-1 (bit (s .args .stones)) (s .args .j) (sym (at-bit-at .bit-at .ensures) ∙ is-on (at-if1 .if1 .left))
+    (sym (at-bit-at2 .bit-at2 .ensures) ∙ not-on (c .if2 .taken))
 
 add-bit-at-2 : tie.Need-add-bit-at-2
 add-bit-at-2 c = search needs
@@ -37,8 +44,15 @@ add-result-2 c = search needs
 
 returns-3 : tie.Need-returns-3
 returns-3 c =
-    gap-2 (bit (c .before .before .before .before .before .before .args .stones)) (c .before .before .before .before .before .before .args .j) (sym (c .before .before .before .before .before .bit-at .ensures) ∙ is-on (c .before .before .before .before .if1 .left)) (sym (c .before .before .before .bit-at2 .ensures) ∙ is-on (c .before .before .if2 .left))
-    (sym (c .before .bit-at3 .ensures) ∙ not-on (c .if3 .taken))
+    let at-bit-at3 = c .before in
+    let at-if2 = at-bit-at3 .before in
+    let at-bit-at2 = at-if2 .before in
+    let at-if1 = at-bit-at2 .before in
+    let at-bit-at = at-if1 .before in
+    let s = at-bit-at .before in
+    gap-2 (bit (s .args .stones)) (s .args .j) (sym (at-bit-at .bit-at .ensures) ∙ is-on (at-if1 .if1 .left))
+    (sym (at-bit-at2 .bit-at2 .ensures) ∙ is-on (at-if2 .if2 .left))
+    (sym (at-bit-at3 .bit-at3 .ensures) ∙ not-on (c .if3 .taken))
 
 add-bit-at-3 : tie.Need-add-bit-at-3
 add-bit-at-3 c = search needs
@@ -51,16 +65,34 @@ add-result-3 c = search needs
 
 returns-4 : tie.Need-returns-4
 returns-4 c =
-    gap-3 (bit (c .before .before .before .before .before .before .before .before .args .stones)) (c .before .before .before .before .before .before .before .before .args .j) (sym (c .before .before .before .before .before .before .before .bit-at .ensures) ∙ is-on (c .before .before .before .before .before .before .if1 .left)) (sym (c .before .before .before .before .before .bit-at2 .ensures) ∙ is-on (c .before .before .before .before .if2 .left))
-    (sym (c .before .before .before .bit-at3 .ensures) ∙ is-on (c .before .before .if3 .left)) (sym (c .before .bit-at4 .ensures) ∙ not-on (c .if4 .taken))
+    let at-bit-at4 = c .before in
+    let at-if3 = at-bit-at4 .before in
+    let at-bit-at3 = at-if3 .before in
+    let at-if2 = at-bit-at3 .before in
+    let at-bit-at2 = at-if2 .before in
+    let at-if1 = at-bit-at2 .before in
+    let at-bit-at = at-if1 .before in
+    let s = at-bit-at .before in
+    gap-3 (bit (s .args .stones)) (s .args .j) (sym (at-bit-at .bit-at .ensures) ∙ is-on (at-if1 .if1 .left))
+    (sym (at-bit-at2 .bit-at2 .ensures) ∙ is-on (at-if2 .if2 .left))
+    (sym (at-bit-at3 .bit-at3 .ensures) ∙ is-on (at-if3 .if3 .left)) (sym (at-bit-at4 .bit-at4 .ensures) ∙ not-on (c .if4 .taken))
 
 add-result-4 : tie.Need-add-result-4
 add-result-4 c = search needs
 
 returns-5 : tie.Need-returns-5
 returns-5 c =
-    gap-4 (bit (c .before .before .before .before .before .before .before .before .args .stones)) (c .before .before .before .before .before .before .before .before .args .j) (sym (c .before .before .before .before .before .before .before .bit-at .ensures) ∙ is-on (c .before .before .before .before .before .before .if1 .left)) (sym (c .before .before .before .before .before .bit-at2 .ensures) ∙ is-on (c .before .before .before .before .if2 .left))
-    (sym (c .before .before .before .bit-at3 .ensures) ∙ is-on (c .before .before .if3 .left)) (sym (c .before .bit-at4 .ensures) ∙ is-on (c .if4 .left))
+    let at-bit-at4 = c .before in
+    let at-if3 = at-bit-at4 .before in
+    let at-bit-at3 = at-if3 .before in
+    let at-if2 = at-bit-at3 .before in
+    let at-bit-at2 = at-if2 .before in
+    let at-if1 = at-bit-at2 .before in
+    let at-bit-at = at-if1 .before in
+    let s = at-bit-at .before in
+    gap-4 (bit (s .args .stones)) (s .args .j) (sym (at-bit-at .bit-at .ensures) ∙ is-on (at-if1 .if1 .left))
+    (sym (at-bit-at2 .bit-at2 .ensures) ∙ is-on (at-if2 .if2 .left))
+    (sym (at-bit-at3 .bit-at3 .ensures) ∙ is-on (at-if3 .if3 .left)) (sym (at-bit-at4 .bit-at4 .ensures) ∙ is-on (c .if4 .left))
 
 pub gap-from-spec : {M : Type 1} → statement M
 gap-from-spec =

@@ -29,9 +29,12 @@ starts-on-requires c κs =
 
 returns : tie.Need-returns Inv-loop μ-loop
 returns c =
-    let C = cellsOf (c .before .before .before .before .args .lines .now) in
-    any-found 72 (rowOnKey (c .before .before .before .before .args .player) (c .before .before .before .before .args .kind) C) (c .before .before .before .loop .key) (omega arith)
-    (row-there (c .before .before .before .before .args .player) C (c .before .before .before .before .args .kind) (c .before .before .before .loop .key) (c .before .starts-on .ensures) (c .if1 .taken))
+    let at-starts-on = c .before in
+    let at-loop = at-starts-on .before .before in
+    let s = at-loop .before in
+    let C = cellsOf (s .args .lines .now) in
+    any-found 72 (rowOnKey (s .args .player) (s .args .kind) C) (at-loop .loop .key) (omega arith)
+    (row-there (s .args .player) C (s .args .kind) (at-loop .loop .key) (at-starts-on .starts-on .ensures) (c .if1 .taken))
 
 add-key : tie.Need-add-key Inv-loop μ-loop
 add-key c =
@@ -43,17 +46,22 @@ loop-less c =
 
 loop-again : tie.Need-loop-again Inv-loop μ-loop
 loop-again c =
-    let C = cellsOf (c .before .before .before .before .args .lines .now) in (
+    let at-starts-on = c .before in
+    let at-loop = at-starts-on .before .before in
+    let s = at-loop .before in
+    let C = cellsOf (s .args .lines .now) in (
       omega arith,
-      any-more (c .before .before .before .loop .key) (rowOnKey (c .before .before .before .before .args .player) (c .before .before .before .before .args .kind) C) (c .before .before .before .loop .inv .1)
-          (row-none (c .before .before .before .before .args .player) C (c .before .before .before .before .args .kind) (c .before .before .before .loop .key) (c .before .starts-on .ensures) (c .if1 .left)),
+      any-more (at-loop .loop .key) (rowOnKey (s .args .player) (s .args .kind) C) (at-loop .loop .inv .1)
+          (row-none (s .args .player) C (s .args .kind) (at-loop .loop .key) (at-starts-on .starts-on .ensures) (c .if1 .left)),
     )
 
 returns-2 : tie.Need-returns-2 Inv-loop μ-loop
 returns-2 c =
-    let C = cellsOf (c .before .before .args .lines .now) in
-    let e : c .before .loop .key ≡ 72 = omega arith in
-    sym (ap (λ (n : ℕ). anyBelow n (rowOnKey (c .before .before .args .player) (c .before .before .args .kind) C)) (sym e) ∙ c .before .loop .inv .1)
+    let at-loop = c .before in
+    let s = at-loop .before in
+    let C = cellsOf (s .args .lines .now) in
+    let e : at-loop .loop .key ≡ 72 = omega arith in
+    sym (ap (λ (n : ℕ). anyBelow n (rowOnKey (s .args .player) (s .args .kind) C)) (sym e) ∙ at-loop .loop .inv .1)
 
 pub has-row-spec : {M : Type 1} → statement M
 has-row-spec =

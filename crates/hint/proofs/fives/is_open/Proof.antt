@@ -12,8 +12,10 @@ has-row-requires c κs =
 
 returns : tie.Need-returns
 returns c =
-    let s = c .before .before in
-    open-black (s .args .side) (cellsOf (s .args .lines .now)) (length-cellsOf (s .args .lines .now)) (c .before .has-row .ensures) (c .if1 .taken)
+    let at-has-row = c .before in
+    let s = at-has-row .before in
+    open-black (s .args .side) (cellsOf (s .args .lines .now)) (length-cellsOf (s .args .lines .now)) (at-has-row .has-row .ensures)
+    (c .if1 .taken)
 
 has-row-requires-2 : tie.Need-has-row-requires-2
 has-row-requires-2 c κs =
@@ -21,9 +23,13 @@ has-row-requires-2 c κs =
 
 returns-2 : tie.Need-returns-2
 returns-2 c =
-    let s = c .before .before .before .before in
-    open-white (s .args .side) (cellsOf (s .args .lines .now)) (length-cellsOf (s .args .lines .now)) (c .before .before .before .has-row .ensures) (c .before .before .if1 .left)
-    (c .before .has-row2 .ensures) (c .if2 .taken)
+    let at-has-row2 = c .before in
+    let at-if1 = at-has-row2 .before in
+    let at-has-row = at-if1 .before in
+    let s = at-has-row .before in
+    open-white (s .args .side) (cellsOf (s .args .lines .now)) (length-cellsOf (s .args .lines .now)) (at-has-row .has-row .ensures)
+    (at-if1 .if1 .left)
+    (at-has-row2 .has-row2 .ensures) (c .if2 .taken)
 
 opponent-requires : tie.Need-opponent-requires
 opponent-requires c κs =
@@ -35,9 +41,15 @@ has-row-requires-3 c κs =
 
 returns-3 : tie.Need-returns-3
 returns-3 c =
-    let s = c .before .before .before .before .before .before in
-    open-told (s .args .side) (cellsOf (s .args .lines .now)) (length-cellsOf (s .args .lines .now)) (c .before .before .before .before .before .has-row .ensures) (c .before .before .before .before .if1 .left)
-    (c .before .before .before .has-row2 .ensures) (c .before .before .if2 .left) (c .before .opponent .ensures) (c .has-row3 .ensures)
+    let at-opponent = c .before in
+    let at-if2 = at-opponent .before in
+    let at-has-row2 = at-if2 .before in
+    let at-if1 = at-has-row2 .before in
+    let at-has-row = at-if1 .before in
+    let s = at-has-row .before in
+    open-told (s .args .side) (cellsOf (s .args .lines .now)) (length-cellsOf (s .args .lines .now)) (at-has-row .has-row .ensures)
+    (at-if1 .if1 .left)
+    (at-has-row2 .has-row2 .ensures) (at-if2 .if2 .left) (at-opponent .opponent .ensures) (c .has-row3 .ensures)
 
 pub is-open-spec : {M : Type 1} → statement M
 is-open-spec =

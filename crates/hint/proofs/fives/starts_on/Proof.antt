@@ -24,8 +24,21 @@ row-starts-requires c κs = search needs
 
 returns : tie.Need-returns
 returns c =
-    rw (c .row-starts .ensures, c .before .is-black .ensures, c .before .before .key-size .ensures, c .before .before .before .mask-on2 .ensures, c .before .before .before .before .opponent .ensures, c .before .before .before .before .before .mask-on .ensures)
-    (shown-rows (c .before .before .before .before .before .before .args .player) (c .before .before .before .before .before .before .args .kind) (c .before .before .before .before .before .before .args .lines .now) (c .before .before .before .before .before .before .args .key) (c .before .before .before .before .before .before .pre .0) (c .before .before .before .before .before .before .pre .1))
+    let at-is-black = c .before in
+    let at-key-size = at-is-black .before in
+    let at-mask-on2 = at-key-size .before in
+    let at-opponent = at-mask-on2 .before in
+    let at-mask-on = at-opponent .before in
+    let s = at-mask-on .before in
+    rw (
+      c .row-starts .ensures,
+      at-is-black .is-black .ensures,
+      at-key-size .key-size .ensures,
+      at-mask-on2 .mask-on2 .ensures,
+      at-opponent .opponent .ensures,
+      at-mask-on .mask-on .ensures,
+    )
+    (shown-rows (s .args .player) (s .args .kind) (s .args .lines .now) (s .args .key) (s .pre .0) (s .pre .1))
 
 pub starts-on-spec : {M : Type 1} → statement M
 starts-on-spec =

@@ -22,7 +22,17 @@ first-requires-2 c κs = search needs
 returns : tie.Need-returns
 unfolding checkRefusal
 returns c =
-    rw (c .first2 .ensures, c .before .before .first .ensures, c .before .before .before .before .cells-refusal .ensures, c .before .before .before .codes-refusal .ensures, c .before .colour-refusal .ensures)
+    let at-colour-refusal = c .before in
+    let at-first = at-colour-refusal .before in
+    let at-codes-refusal = at-first .before in
+    let at-cells-refusal = at-codes-refusal .before in
+    rw (
+      c .first2 .ensures,
+      at-first .first .ensures,
+      at-cells-refusal .cells-refusal .ensures,
+      at-codes-refusal .codes-refusal .ensures,
+      at-colour-refusal .colour-refusal .ensures,
+    )
 
 pub check-refusal-spec : {M : Type 1} → statement M
 check-refusal-spec =

@@ -20,13 +20,19 @@ lines-of-requires c κs = search needs
 
 is-open-requires : tie.Need-is-open-requires
 is-open-requires c κs =
-    lines-sound (c .before .before .before .before .args .cells .now) (c .before .before .before .before .pre) (c .before .lines-of .ensures)
+    let at-lines-of = c .before in
+    let s = at-lines-of .before .before .before in
+    lines-sound (s .args .cells .now) (s .pre) (at-lines-of .lines-of .ensures)
 
 returns : tie.Need-returns
 returns c =
-    let a = c .before .before .before .before .before .before .args in
+    let at-is-open = c .before in
+    let at-lines-of = at-is-open .before .before in
+    let s = at-lines-of .before .before .before in
+    let a = s .args in
     shut-none (a .side) (a .cells .now)
-    (c .before .is-open .ensures ∙ ap (λ (C : List ℕ). goesOn C && not (anyBelow 225 (completes (opponentOf (a .side)) C))) (lines-cells (a .cells .now) (c .before .before .before .before .before .before .pre) (c .before .before .before .lines-of .ensures)))
+    (at-is-open .is-open .ensures ∙ ap (λ (C : List ℕ). goesOn C && not (anyBelow 225 (completes (opponentOf (a .side)) C)))
+    (lines-cells (a .cells .now) (s .pre) (at-lines-of .lines-of .ensures)))
     (not-on (c .if1 .taken)) (a .list .now)
 
 addresses-requires : tie.Need-addresses-requires
@@ -34,19 +40,28 @@ addresses-requires c κs = search needs
 
 check-on-requires : tie.Need-check-on-requires
 check-on-requires c κs =
-    let a = c .before .before .before .before .before .before .before .before .before .args in (
-      lines-sound (a .cells .now) (c .before .before .before .before .before .before .before .before .before .pre) (c .before .before .before .before .before .before .lines-of .ensures),
-      c .before .before .addresses .ensures,
-      open-quiet (a .side) (cellsOf (c .before .before .before .before .before .before .lines-of .result)) (c .before .before .before .before .is-open .ensures) (is-on (c .before .before .before .if1 .left)),
+    let at-addresses = c .before .before in
+    let at-if1 = at-addresses .before in
+    let at-is-open = at-if1 .before in
+    let at-lines-of = at-is-open .before .before in
+    let s = at-lines-of .before .before .before in
+    let a = s .args in (
+      lines-sound (a .cells .now) (s .pre) (at-lines-of .lines-of .ensures),
+      at-addresses .addresses .ensures,
+      open-quiet (a .side) (cellsOf (at-lines-of .lines-of .result)) (at-is-open .is-open .ensures) (is-on (at-if1 .if1 .left)),
     )
 
 returns-2 : tie.Need-returns-2
 returns-2 c =
-    let a = c .before .before .before .before .before .before .before .before .before .before .args in
-    let same = lines-cells (a .cells .now) (c .before .before .before .before .before .before .before .before .before .before .pre) (c .before .before .before .before .before .before .before .lines-of .ensures) in
+    let at-if1 = c .before .before .before .before in
+    let at-is-open = at-if1 .before in
+    let at-lines-of = at-is-open .before .before in
+    let s = at-lines-of .before .before .before in
+    let a = s .args in
+    let same = lines-cells (a .cells .now) (s .pre) (at-lines-of .lines-of .ensures) in
     open-checked (a .side) (a .cells .now)
-    (c .before .before .before .before .before .is-open .ensures ∙ ap (λ (C : List ℕ). goesOn C && not (anyBelow 225 (completes (opponentOf (a .side)) C))) same)
-    (is-on (c .before .before .before .before .if1 .left)) (a .list .now) (c .check-on .ensures ∙ ap (λ (C : List ℕ). reachesEnd (a .side) C (a .list .now)) same)
+    (at-is-open .is-open .ensures ∙ ap (λ (C : List ℕ). goesOn C && not (anyBelow 225 (completes (opponentOf (a .side)) C))) same)
+    (is-on (at-if1 .if1 .left)) (a .list .now) (c .check-on .ensures ∙ ap (λ (C : List ℕ). reachesEnd (a .side) C (a .list .now)) same)
 
 pub checked-spec : {M : Type 1} → statement M
 checked-spec =

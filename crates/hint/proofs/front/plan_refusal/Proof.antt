@@ -28,7 +28,21 @@ first-requires-3 c κs = search needs
 returns : tie.Need-returns
 unfolding planRefusal
 returns c =
-    rw (c .first3 .ensures, c .before .before .first2 .ensures, c .before .before .before .before .first .ensures, c .before .before .before .before .before .before .cells-refusal .ensures, c .before .before .before .before .before .colour-refusal .ensures, c .before .before .before .limit-refusal .ensures, c .before .unless .ensures)
+    let at-unless = c .before in
+    let at-first2 = at-unless .before in
+    let at-limit-refusal = at-first2 .before in
+    let at-first = at-limit-refusal .before in
+    let at-colour-refusal = at-first .before in
+    let at-cells-refusal = at-colour-refusal .before in
+    rw (
+      c .first3 .ensures,
+      at-first2 .first2 .ensures,
+      at-first .first .ensures,
+      at-cells-refusal .cells-refusal .ensures,
+      at-colour-refusal .colour-refusal .ensures,
+      at-limit-refusal .limit-refusal .ensures,
+      at-unless .unless .ensures,
+    )
 
 pub plan-refusal-spec : {M : Type 1} → statement M
 plan-refusal-spec =

@@ -25,39 +25,56 @@ lines-of-requires c κs = search needs
 
 is-open-requires : tie.Need-is-open-requires
 is-open-requires c κs =
-    lines-sound (c .before .before .before .args .cells .now) (c .before .before .before .pre .0) (c .before .lines-of .ensures)
+    let at-lines-of = c .before in
+    let s = at-lines-of .before .before in
+    lines-sound (s .args .cells .now) (s .pre .0) (at-lines-of .lines-of .ensures)
 
 returns : tie.Need-returns
 returns c =
-    let a = c .before .before .before .before .before .args in
-    let same = lines-cells (a .cells .now) (c .before .before .before .before .before .pre .0) (c .before .before .before .lines-of .ensures) in
+    let at-is-open = c .before in
+    let at-lines-of = at-is-open .before .before in
+    let s = at-lines-of .before .before in
+    let a = s .args in
+    let same = lines-cells (a .cells .now) (s .pre .0) (at-lines-of .lines-of .ensures) in
     let none = shut-plan (a .side) (a .limit) (a .cells .now)
-    (c .before .is-open .ensures ∙ ap (λ (C : List ℕ). goesOn C && not (anyBelow 225 (completes (opponentOf (a .side)) C))) same) (not-on (c .if1 .taken)) in
+    (at-is-open .is-open .ensures ∙ ap (λ (C : List ℕ). goesOn C && not (anyBelow 225 (completes (opponentOf (a .side)) C))) same)
+    (not-on (c .if1 .taken)) in
     plan-held (planOf (a .side) (a .limit) (a .cells .now)) zeros-11 (ap length (sym none)) (ap (sets _ 0) (sym none))
-    (plan-fits (a .side) (a .limit) (a .cells .now) (c .before .before .before .before .before .pre .1))
+    (plan-fits (a .side) (a .limit) (a .cells .now) (s .pre .1))
 
 addresses-requires : tie.Need-addresses-requires
 addresses-requires c κs = search needs
 
 plan-on-requires : tie.Need-plan-on-requires
 plan-on-requires c κs =
-    let a = c .before .before .before .before .before .before .before .before .before .args in
-    let h = c .before .before .before .before .before .before .before .before .before .pre .1 in (
-      lines-sound (a .cells .now) (c .before .before .before .before .before .before .before .before .before .pre .0) (c .before .before .before .before .before .before .before .lines-of .ensures),
-      c .before .before .before .addresses .ensures,
-      open-quiet (a .side) (cellsOf (c .before .before .before .before .before .before .before .lines-of .result)) (c .before .before .before .before .before .is-open .ensures) (is-on (c .before .before .before .before .if1 .left)),
+    let at-addresses = c .before .before .before in
+    let at-if1 = at-addresses .before in
+    let at-is-open = at-if1 .before in
+    let at-lines-of = at-is-open .before .before in
+    let s = at-lines-of .before .before in
+    let a = s .args in
+    let h = s .pre .1 in (
+      lines-sound (a .cells .now) (s .pre .0) (at-lines-of .lines-of .ensures),
+      at-addresses .addresses .ensures,
+      open-quiet (a .side) (cellsOf (at-lines-of .lines-of .result)) (at-is-open .is-open .ensures) (is-on (at-if1 .if1 .left)),
       omega arith,
     )
 
 returns-2 : tie.Need-returns-2
 returns-2 c =
-    let a = c .before .before .before .before .before .before .before .before .before .before .args in
-    let same = lines-cells (a .cells .now) (c .before .before .before .before .before .before .before .before .before .before .pre .0) (c .before .before .before .before .before .before .before .before .lines-of .ensures) in
-    let opened = c .before .before .before .before .before .before .is-open .ensures ∙ ap (λ (C : List ℕ). goesOn C && not (anyBelow 225 (completes (opponentOf (a .side)) C))) same in
-    let is = ap (planFrom (a .side) (a .limit)) same ∙ open-plan (a .side) (a .limit) (a .cells .now) opened (open-on (a .side) (a .cells .now) opened (is-on (c .before .before .before .before .before .if1 .left))) in
+    let at-if1 = c .before .before .before .before .before in
+    let at-is-open = at-if1 .before in
+    let at-lines-of = at-is-open .before .before in
+    let s = at-lines-of .before .before in
+    let a = s .args in
+    let same = lines-cells (a .cells .now) (s .pre .0) (at-lines-of .lines-of .ensures) in
+    let opened = at-is-open .is-open .ensures ∙ ap (λ (C : List ℕ). goesOn C && not (anyBelow 225 (completes (opponentOf (a .side)) C)))
+    same in
+    let is = ap (planFrom (a .side) (a .limit)) same ∙ open-plan (a .side) (a .limit) (a .cells .now) opened
+    (open-on (a .side) (a .cells .now) opened (is-on (at-if1 .if1 .left))) in
     let p = c .plan-on .ensures in
     plan-held (planOf (a .side) (a .limit) (a .cells .now)) zeros-11 (p .0 ∙ ap length is) (p .1 ∙ ap (sets _ 0) is)
-    (plan-fits (a .side) (a .limit) (a .cells .now) (c .before .before .before .before .before .before .before .before .before .before .pre .1))
+    (plan-fits (a .side) (a .limit) (a .cells .now) (s .pre .1))
 
 pub planned-spec : {M : Type 1} → statement M
 planned-spec =

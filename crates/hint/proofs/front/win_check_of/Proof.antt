@@ -15,22 +15,31 @@ check-refusal-requires c κs = search needs
 
 returns : tie.Need-returns
 returns c =
-    let a = c .before .before .before .before .args in
-    not-tested (acceptable (playerOf (a .colour)) (a .cells .now) (a .list .now)) (c .before .check-refusal .ensures) (c .if1 .taken)
+    let at-check-refusal = c .before in
+    let s = at-check-refusal .before .before .before in
+    let a = s .args in
+    not-tested (acceptable (playerOf (a .colour)) (a .cells .now) (a .list .now)) (at-check-refusal .check-refusal .ensures) (c .if1 .taken)
 
 or-white-requires : tie.Need-or-white-requires
 or-white-requires c κs = search needs
 
 checked-requires : tie.Need-checked-requires
 checked-requires c κs =
-    let a = c .before .before .before .before .before .args in
-    check-cells (a .cells .now) (a .colour) (a .list .now) (sym (c .before .before .check-refusal .ensures) ∙ c .before .if1 .left)
+    let at-if1 = c .before in
+    let at-check-refusal = at-if1 .before in
+    let s = at-check-refusal .before .before .before in
+    let a = s .args in
+    check-cells (a .cells .now) (a .colour) (a .list .now) (sym (at-check-refusal .check-refusal .ensures) ∙ at-if1 .if1 .left)
 
 returns-2 : tie.Need-returns-2
 returns-2 c =
-    let a = c .before .before .before .before .before .before .args in
-    tested (acceptable (playerOf (a .colour)) (a .cells .now) (a .list .now)) (c .before .before .before .check-refusal .ensures) (c .before .before .if1 .left)
-    (c .checked .ensures ∙ ap (λ (r : Player). acceptable r (a .cells .now) (a .list .now)) (c .before .or-white .ensures))
+    let at-or-white = c .before in
+    let at-if1 = at-or-white .before in
+    let at-check-refusal = at-if1 .before in
+    let s = at-check-refusal .before .before .before in
+    let a = s .args in
+    tested (acceptable (playerOf (a .colour)) (a .cells .now) (a .list .now)) (at-check-refusal .check-refusal .ensures) (at-if1 .if1 .left)
+    (c .checked .ensures ∙ ap (λ (r : Player). acceptable r (a .cells .now) (a .list .now)) (at-or-white .or-white .ensures))
 
 pub win-check-of-spec : {M : Type 1} → statement M
 win-check-of-spec =

@@ -20,16 +20,22 @@ same-length c = search needs
 
 returns : tie.Need-returns
 returns c =
-    let a = c .before .before .before .before .before .args in
-    turned-down 1 (a .out .now) (planOf (playerOf (a .colour)) (a .limit) (a .cells .now)) (c .before .plan-refusal .ensures) (c .if1 .taken)
+    let at-plan-refusal = c .before in
+    let s = at-plan-refusal .before .before .before .before in
+    let a = s .args in
+    turned-down 1 (a .out .now) (planOf (playerOf (a .colour)) (a .limit) (a .cells .now)) (at-plan-refusal .plan-refusal .ensures)
+    (c .if1 .taken)
 
 or-white-requires : tie.Need-or-white-requires
 or-white-requires c κs = search needs
 
 planned-requires : tie.Need-planned-requires
 planned-requires c κs =
-    let a = c .before .before .before .before .before .before .args in
-    let z = sym (c .before .before .plan-refusal .ensures) ∙ c .before .if1 .left in
+    let at-if1 = c .before in
+    let at-plan-refusal = at-if1 .before in
+    let s = at-plan-refusal .before .before .before .before in
+    let a = s .args in
+    let z = sym (at-plan-refusal .plan-refusal .ensures) ∙ at-if1 .if1 .left in
     (plan-cells (a .cells .now) (a .colour) (a .limit) (a .out .now) z, plan-limit (a .cells .now) (a .colour) (a .limit) (a .out .now) z)
 
 slice-aggregate-hand-out : tie.Need-slice-aggregate-hand-out
@@ -37,7 +43,8 @@ slice-aggregate-hand-out c = search needs
 
 cast-hand-out : tie.Need-cast-hand-out
 cast-hand-out c =
-    record { fits = omega (arith, held-le 11 (c .before .before .before .planned .ensures) (search needs)) }
+    let at-planned = c .before .before .before in
+    record { fits = omega (arith, held-le 11 (at-planned .planned .ensures) (search needs)) }
 
 hand-out-requires : tie.Need-hand-out-requires
 hand-out-requires c κs = search needs
@@ -47,10 +54,16 @@ same-length-2 c = search needs
 
 returns-2 : tie.Need-returns-2
 returns-2 c =
-    let a = c .before .before .before .before .before .before .before .before .before .before .before .before .before .before .args in
-    handed-codes _ _ (sym (c .before .before .before .before .before .before .before .before .before .if1 .left) ∙ c .before .before .before .before .before .before .before .before .before .before .plan-refusal .ensures) 11
-    (held-as 11 (c .before .before .before .before .before .before .before .planned .ensures) (ap (λ (r : Player). planOf r (a .limit) (a .cells .now)) (c .before .before .before .before .before .before .before .before .or-white .ensures)))
-    (c .before .before .hand-out .ensures)
+    let at-hand-out = c .before .before in
+    let at-planned = at-hand-out .before .before .before .before .before in
+    let at-or-white = at-planned .before in
+    let at-if1 = at-or-white .before in
+    let at-plan-refusal = at-if1 .before in
+    let s = at-plan-refusal .before .before .before .before in
+    let a = s .args in
+    handed-codes _ _ (sym (at-if1 .if1 .left) ∙ at-plan-refusal .plan-refusal .ensures) 11
+    (held-as 11 (at-planned .planned .ensures) (ap (λ (r : Player). planOf r (a .limit) (a .cells .now)) (at-or-white .or-white .ensures)))
+    (at-hand-out .hand-out .ensures)
 
 pub win-plan-of-spec : {M : Type 1} → statement M
 win-plan-of-spec =

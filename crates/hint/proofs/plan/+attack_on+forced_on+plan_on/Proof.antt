@@ -25,8 +25,7 @@ use Rattle.hint.proofs.plan.+attack_on+forced_on+plan_on.Lts-forced_on 
 use Rattle.hint.proofs.plan.plan_on.Reads as plan-on
 use Rattle.hint.proofs.plan.plan_on.Kinds as plan-on-kinds
 use Rattle.hint.proofs.plan.+attack_on+forced_on+plan_on.Lts-plan_on as plan-on-lts
-use Rattle.grid.proofs.add_on.Reads as add-on-reads
-use Rattle.grid.proofs.lift_on.Reads as lift-on-reads
+use Rattle.grid.proofs.mark_on.Reads as mark-on-reads
 use Rattle.hint.proofs.attack.attack_at.Reads as attack-at-reads
 use Rattle.rules.proofs.Player.opponent.Reads as opponent-reads
 use Rattle.hint.proofs.plan.+attack_on+forced_on+plan_on.{statement}
@@ -67,7 +66,14 @@ attack-on-calls t = (attack-at-reads.Asked, attack-at-reads.Learnt, forced-on-be
 
 -- what `forced-on` is told of those that it calls
 abbrev forced-on-calls : ℕ → forced-on-lts.Claims
-forced-on-calls t = (add-on-reads.Asked, add-on-reads.Learnt, opponent-reads.Asked, opponent-reads.Learnt, plan-on-below t, plan-on.Post, lift-on-reads.Asked, lift-on-reads.Learnt)
+forced-on-calls t = (
+  mark-on-reads.Asked,
+  mark-on-reads.Learnt,
+  opponent-reads.Asked,
+  opponent-reads.Learnt,
+  plan-on-below t,
+  plan-on.Post,
+)
 
 -- what `plan-on` is told of those that it calls
 abbrev plan-on-calls : ℕ → plan-on-lts.Claims
@@ -88,7 +94,8 @@ attack-on-enum-told-2 t c =
 
 attack-on-element-write-out : (t : ℕ) → attack-on-lts.Need-element-write-out (attack-on-calls t) (attack-on-at t) attack-on.Post
 attack-on-element-write-out t c =
-    omega (arith, c .before .before .before .before .pre .1 .3, c .before .before .before .before .pre .1 .4)
+    let s = c .before .before .before .before in
+    omega (arith, s .pre .1 .3, s .pre .1 .4)
 
 attack-on-enum-known-eye : (t : ℕ) → attack-on-lts.Need-enum-known-eye (attack-on-calls t) (attack-on-at t) attack-on.Post
 attack-on-enum-known-eye t c =
@@ -96,16 +103,18 @@ attack-on-enum-known-eye t c =
 
 attack-on-forced-on-requires : (t : ℕ) → attack-on-lts.Need-forced-on-requires (attack-on-calls t) (attack-on-at t) attack-on.Post
 attack-on-forced-on-requires t c κs =
-    let s = c .before .before .before .before .before .before .before in
+    let at-eye = c .before .before .before in
+    let at-attack-at = at-eye .before .before in
+    let s = at-attack-at .before .before in
     let a = s .args in
-    let e = c .before .before .before .before .before .attack-at .ensures in
+    let e = at-attack-at .attack-at .ensures in
     let m = s .pre .0 in (
       omega arith,
       (
         subst Sound (sym (e .1)) (s .pre .1 .0),
         s .pre .1 .1,
-        subst (λ (l : List ℕ). Forced (a .side) (cellsOf l) (a .code) (c .before .before .before .eye .given .0 .0)) (sym (e .1))
-            (at-forced (a .side) (cellsOf (a .lines .now)) (a .code) (e .0) (c .before .before .before .eye .given .1)),
+        subst (λ (l : List ℕ). Forced (a .side) (cellsOf l) (a .code) (at-eye .eye .given .0 .0)) (sym (e .1))
+            (at-forced (a .side) (cellsOf (a .lines .now)) (a .code) (e .0) (at-eye .eye .given .1)),
         s .pre .1 .3,
         s .pre .1 .4,
       ),
@@ -113,22 +122,30 @@ attack-on-forced-on-requires t c κs =
 
 attack-on-returns : (t : ℕ) → attack-on-lts.Need-returns (attack-on-calls t) (attack-on-at t) attack-on.Post
 attack-on-returns t c =
-    let a = c .before .before .before .before .args in
-    let e = c .before .before .attack-at .ensures in
-    let g = gives (a .out .now) (a .at) (line-no (a .side) (a .left - 1) (cellsOf (a .lines .now)) (a .code) (e .0) (c .enum-told .given .1)) in
+    let at-attack-at = c .before .before in
+    let s = at-attack-at .before .before in
+    let a = s .args in
+    let e = at-attack-at .attack-at .ensures in
+    let g = gives (a .out .now) (a .at)
+    (line-no (a .side) (a .left - 1) (cellsOf (a .lines .now)) (a .code) (e .0) (c .enum-told .given .1)) in
     (g .0, g .1, e .1)
 
 attack-on-returns-2 : (t : ℕ) → attack-on-lts.Need-returns-2 (attack-on-calls t) (attack-on-at t) attack-on.Post
 attack-on-returns-2 t c =
-    let a = c .before .before .before .before .args in
-    let e = c .before .before .attack-at .ensures in
-    let g = gives (a .out .now) (a .at) (line-end (a .side) (a .left - 1) (cellsOf (a .lines .now)) (a .code) (e .0) (c .enum-told2 .given .1)) in
+    let at-attack-at = c .before .before in
+    let s = at-attack-at .before .before in
+    let a = s .args in
+    let e = at-attack-at .attack-at .ensures in
+    let g = gives (a .out .now) (a .at)
+    (line-end (a .side) (a .left - 1) (cellsOf (a .lines .now)) (a .code) (e .0) (c .enum-told2 .given .1)) in
     (g .0, g .1, e .1)
 
 attack-on-returns-3 : (t : ℕ) → attack-on-lts.Need-returns-3 (attack-on-calls t) (attack-on-at t) attack-on.Post
 attack-on-returns-3 t c =
-    let a = c .before .before .before .before .before .before .before .before .args in
-    let e = c .before .before .before .before .before .before .attack-at .ensures .1 in
+    let at-attack-at = c .before .before .before .before .before .before in
+    let s = at-attack-at .before .before in
+    let a = s .args in
+    let e = at-attack-at .attack-at .ensures .1 in
     let r = c .forced-on .ensures in
     let next = planFrom (a .side) (a .left - 1) in (
       r .0 ∙ ap (λ (l : List ℕ). length (lineFrom (a .side) next (cellsOf l) (a .code))) e,
@@ -140,43 +157,51 @@ forced-on-returns : (t : ℕ) → forced-on-lts.Need-returns (forced-on-calls t)
 forced-on-returns t c =
     let s = c .before in
     let a = s .args in
-    let g = gives (a .out .now) (a .at) (line-last (a .side) (a .left) (cellsOf (a .lines .now)) (a .code) (a .eye) (s .pre .1 .2) (c .if1 .taken)) in
+    let g = gives (a .out .now) (a .at)
+    (line-last (a .side) (a .left) (cellsOf (a .lines .now)) (a .code) (a .eye) (s .pre .1 .2) (c .if1 .taken)) in
     (g .0, g .1, refl)
 
-forced-on-add-on-requires : (t : ℕ) → forced-on-lts.Need-add-on-requires (forced-on-calls t) (forced-on-at t) forced-on.Post
-forced-on-add-on-requires t c κs =
+forced-on-mark-on-requires : (t : ℕ) → forced-on-lts.Need-mark-on-requires (forced-on-calls t) (forced-on-at t) forced-on.Post
+forced-on-mark-on-requires t c κs =
     search needs
 
 forced-on-opponent-requires : (t : ℕ) → forced-on-lts.Need-opponent-requires (forced-on-calls t) (forced-on-at t) forced-on.Post
 forced-on-opponent-requires t c κs =
     search needs
 
-forced-on-add-on-requires-2 : (t : ℕ) → forced-on-lts.Need-add-on-requires-2 (forced-on-calls t) (forced-on-at t) forced-on.Post
-forced-on-add-on-requires-2 t c κs =
+forced-on-mark-on-requires-2 : (t : ℕ) → forced-on-lts.Need-mark-on-requires-2 (forced-on-calls t) (forced-on-at t) forced-on.Post
+forced-on-mark-on-requires-2 t c κs =
     search needs
 
 forced-on-sub-plan-on : (t : ℕ) → forced-on-lts.Need-sub-plan-on (forced-on-calls t) (forced-on-at t) forced-on.Post
 forced-on-sub-plan-on t c =
-    omega (arith, c .before .before .before .before .before .before .before .pre .1 .4)
+    let s = c .before .before .before .before .before .before .before in
+    omega (arith, s .pre .1 .4)
 
 forced-on-add-plan-on : (t : ℕ) → forced-on-lts.Need-add-plan-on (forced-on-calls t) (forced-on-at t) forced-on.Post
 forced-on-add-plan-on t c =
-    omega (arith, c .before .before .before .before .before .before .before .before .pre .1 .3)
+    let s = c .before .before .before .before .before .before .before .before in
+    omega (arith, s .pre .1 .3)
 
 forced-on-plan-on-requires : (t : ℕ) → forced-on-lts.Need-plan-on-requires (forced-on-calls t) (forced-on-at t) forced-on.Post
 forced-on-plan-on-requires t c κs =
-    let s = c .before .before .before .before .before .before .before .before in
+    let at-mark-on2 = c .before .before in
+    let at-opponent = at-mark-on2 .before in
+    let at-mark-on = at-opponent .before .before in
+    let s = at-mark-on .before .before .before in
     let a = s .args in
     let m = s .pre .0 in
     let h = s .pre .1 .4 in
     let b = s .pre .1 .3 in (
       omega arith,
       (
-        both-sound (a .side) (a .lines .now) _ (a .code) (a .eye) (s .pre .1 .0) (s .pre .1 .2) (s .pre .1 .1) (c .before .before .before .opponent .ensures)
-            (c .before .before .before .before .before .add-on .ensures) (c .before .before .add-on2 .ensures),
+        both-sound (a .side) (a .lines .now) _ (a .code) (a .eye) (s .pre .1 .0) (s .pre .1 .2) (s .pre .1 .1)
+            (at-opponent .opponent .ensures)
+            (at-mark-on .mark-on .ensures) (at-mark-on2 .mark-on2 .ensures),
         s .pre .1 .1,
-        both-quiet (a .side) (a .lines .now) _ (a .code) (a .eye) (s .pre .1 .0) (s .pre .1 .2) (s .pre .1 .1) (c .before .before .before .opponent .ensures)
-            (c .before .before .before .before .before .add-on .ensures) (c .before .before .add-on2 .ensures),
+        both-quiet (a .side) (a .lines .now) _ (a .code) (a .eye) (s .pre .1 .0) (s .pre .1 .2) (s .pre .1 .1)
+            (at-opponent .opponent .ensures)
+            (at-mark-on .mark-on .ensures) (at-mark-on2 .mark-on2 .ensures),
         omega arith,
       ),
     )
@@ -185,27 +210,37 @@ forced-on-opponent-requires-2 : (t : ℕ) → forced-on-lts.Need-opponent-requir
 forced-on-opponent-requires-2 t c κs =
     search needs
 
-forced-on-lift-on-requires : (t : ℕ) → forced-on-lts.Need-lift-on-requires (forced-on-calls t) (forced-on-at t) forced-on.Post
-forced-on-lift-on-requires t c κs =
+forced-on-mark-on-requires-3 : (t : ℕ) → forced-on-lts.Need-mark-on-requires-3 (forced-on-calls t) (forced-on-at t) forced-on.Post
+forced-on-mark-on-requires-3 t c κs =
     search needs
 
-forced-on-lift-on-requires-2 : (t : ℕ) → forced-on-lts.Need-lift-on-requires-2 (forced-on-calls t) (forced-on-at t) forced-on.Post
-forced-on-lift-on-requires-2 t c κs =
+forced-on-mark-on-requires-4 : (t : ℕ) → forced-on-lts.Need-mark-on-requires-4 (forced-on-calls t) (forced-on-at t) forced-on.Post
+forced-on-mark-on-requires-4 t c κs =
     search needs
 
 forced-on-returns-2 : (t : ℕ) → forced-on-lts.Need-returns-2 (forced-on-calls t) (forced-on-at t) forced-on.Post
 forced-on-returns-2 t c =
-    let s = c .before .before .before .before .before .before .before .before .before .before .before .before .before .before .before in
+    let at-mark-on4 = c .before in
+    let at-mark-on3 = at-mark-on4 .before .before in
+    let at-opponent2 = at-mark-on3 .before in
+    let at-plan-on = at-opponent2 .before .before in
+    let at-mark-on2 = at-plan-on .before .before .before in
+    let at-opponent = at-mark-on2 .before in
+    let at-mark-on = at-opponent .before .before in
+    let s = at-mark-on .before .before .before in
     let a = s .args in
     let next = planFrom (a .side) (a .left - 1) in
     let after = afterBoth (a .side) (cellsOf (a .lines .now)) (a .code) (a .eye) in
-    let on = both-cells (a .side) (a .lines .now) _ (a .code) (a .eye) (s .pre .1 .0) (s .pre .1 .2) (s .pre .1 .1) (c .before .before .before .before .before .before .before .before .before .before .opponent .ensures)
-    (c .before .before .before .before .before .before .before .before .before .before .before .before .add-on .ensures) (c .before .before .before .before .before .before .before .before .before .add-on2 .ensures) in
-    let r = c .before .before .before .before .before .before .plan-on .ensures in
+    let on = both-cells (a .side) (a .lines .now) _ (a .code) (a .eye) (s .pre .1 .0) (s .pre .1 .2) (s .pre .1 .1)
+    (at-opponent .opponent .ensures)
+    (at-mark-on .mark-on .ensures) (at-mark-on2 .mark-on2 .ensures) in
+    let r = at-plan-on .plan-on .ensures in
     let r0 = r .0 ∙ ap (λ (D : List ℕ). length (next D)) on in
     let r1 = r .1 ∙ ap (λ (D : List ℕ). sets (a .out .now) (a .at + 2) (next D)) on in
-    let back = both-back (a .side) (a .lines .now) _ (a .code) (a .eye) (s .pre .1 .0) (s .pre .1 .2) (s .pre .1 .1) (c .before .before .before .before .before .before .before .before .before .before .opponent .ensures)
-    (c .before .before .before .before .before .before .before .before .before .before .before .before .add-on .ensures) (c .before .before .before .before .before .before .before .before .before .add-on2 .ensures) (c .before .before .before .before .opponent2 .ensures) (r .2) (c .before .before .before .lift-on .ensures) (c .before .lift-on2 .ensures) in
+    let back = both-back (a .side) (a .lines .now) _ (a .code) (a .eye) (s .pre .1 .0) (s .pre .1 .2) (s .pre .1 .1)
+    (at-opponent .opponent .ensures)
+    (at-mark-on .mark-on .ensures) (at-mark-on2 .mark-on2 .ensures) (at-opponent2 .opponent2 .ensures) (r .2) (at-mark-on3 .mark-on3 .ensures)
+    (at-mark-on4 .mark-on4 .ensures) in
     let z = sym (c .if2 .taken) ∙ r0 in
     let g = gives (a .out .now) (a .at) (line-forced (a .side) next (cellsOf (a .lines .now)) (a .code) (a .eye) (s .pre .1 .2)
     ∙ nothing-behind (a .code) (a .eye) (next after) z) in
@@ -213,49 +248,71 @@ forced-on-returns-2 t c =
 
 forced-on-element-write-out : (t : ℕ) → forced-on-lts.Need-element-write-out (forced-on-calls t) (forced-on-at t) forced-on.Post
 forced-on-element-write-out t c =
-    omega (arith, c .before .before .before .before .before .before .before .before .before .before .before .before .before .before .before .pre .1 .3, c .before .before .before .before .before .before .before .before .before .before .before .before .before .before .before .pre .1 .4)
+    let s = c .before .before .before .before .before .before .before .before .before .before .before .before .before .before .before in
+    omega (arith, s .pre .1 .3, s .pre .1 .4)
 
 forced-on-add-out : (t : ℕ) → forced-on-lts.Need-add-out (forced-on-calls t) (forced-on-at t) forced-on.Post
 forced-on-add-out t c =
-    omega (arith, c .before .before .before .before .before .before .before .before .before .before .before .before .before .before .before .pre .1 .3, c .before .before .before .before .before .before .before .before .before .before .before .before .before .before .before .pre .1 .4)
+    let s = c .before .before .before .before .before .before .before .before .before .before .before .before .before .before .before in
+    omega (arith, s .pre .1 .3, s .pre .1 .4)
 
 forced-on-element-write-out-2 : (t : ℕ) → forced-on-lts.Need-element-write-out-2 (forced-on-calls t) (forced-on-at t) forced-on.Post
 forced-on-element-write-out-2 t c =
-    let s = c .before .before .before .before .before .before .before .before .before .before .before .before .before .before .before in
+    let at-plan-on = c .before .before .before .before .before .before in
+    let at-mark-on2 = at-plan-on .before .before .before in
+    let at-opponent = at-mark-on2 .before in
+    let at-mark-on = at-opponent .before .before in
+    let s = at-mark-on .before .before .before in
     let a = s .args in
     let next = planFrom (a .side) (a .left - 1) in
     let after = afterBoth (a .side) (cellsOf (a .lines .now)) (a .code) (a .eye) in
-    let on = both-cells (a .side) (a .lines .now) _ (a .code) (a .eye) (s .pre .1 .0) (s .pre .1 .2) (s .pre .1 .1) (c .before .before .before .before .before .before .before .before .before .before .opponent .ensures)
-    (c .before .before .before .before .before .before .before .before .before .before .before .before .add-on .ensures) (c .before .before .before .before .before .before .before .before .before .add-on2 .ensures) in
-    let r0 = c .before .before .before .before .before .before .plan-on .ensures .0 ∙ ap (λ (D : List ℕ). length (next D)) on in
+    let on = both-cells (a .side) (a .lines .now) _ (a .code) (a .eye) (s .pre .1 .0) (s .pre .1 .2) (s .pre .1 .1)
+    (at-opponent .opponent .ensures)
+    (at-mark-on .mark-on .ensures) (at-mark-on2 .mark-on2 .ensures) in
+    let r0 = at-plan-on .plan-on .ensures .0 ∙ ap (λ (D : List ℕ). length (next D)) on in
     let h = plan-short (a .side) (a .left - 1) after in
     omega (arith, s .pre .1 .3, s .pre .1 .4, r0, h, c .if2 .left)
 
 forced-on-add-result : (t : ℕ) → forced-on-lts.Need-add-result (forced-on-calls t) (forced-on-at t) forced-on.Post
 forced-on-add-result t c =
-    let s = c .before .before .before .before .before .before .before .before .before .before .before .before .before .before .before in
+    let at-plan-on = c .before .before .before .before .before .before in
+    let at-mark-on2 = at-plan-on .before .before .before in
+    let at-opponent = at-mark-on2 .before in
+    let at-mark-on = at-opponent .before .before in
+    let s = at-mark-on .before .before .before in
     let a = s .args in
     let next = planFrom (a .side) (a .left - 1) in
     let after = afterBoth (a .side) (cellsOf (a .lines .now)) (a .code) (a .eye) in
-    let on = both-cells (a .side) (a .lines .now) _ (a .code) (a .eye) (s .pre .1 .0) (s .pre .1 .2) (s .pre .1 .1) (c .before .before .before .before .before .before .before .before .before .before .opponent .ensures)
-    (c .before .before .before .before .before .before .before .before .before .before .before .before .add-on .ensures) (c .before .before .before .before .before .before .before .before .before .add-on2 .ensures) in
-    let r0 = c .before .before .before .before .before .before .plan-on .ensures .0 ∙ ap (λ (D : List ℕ). length (next D)) on in
+    let on = both-cells (a .side) (a .lines .now) _ (a .code) (a .eye) (s .pre .1 .0) (s .pre .1 .2) (s .pre .1 .1)
+    (at-opponent .opponent .ensures)
+    (at-mark-on .mark-on .ensures) (at-mark-on2 .mark-on2 .ensures) in
+    let r0 = at-plan-on .plan-on .ensures .0 ∙ ap (λ (D : List ℕ). length (next D)) on in
     let h = plan-short (a .side) (a .left - 1) after in
     omega (arith, s .pre .1 .3, s .pre .1 .4, r0, h)
 
 forced-on-returns-3 : (t : ℕ) → forced-on-lts.Need-returns-3 (forced-on-calls t) (forced-on-at t) forced-on.Post
 forced-on-returns-3 t c =
-    let s = c .before .before .before .before .before .before .before .before .before .before .before .before .before .before .before in
+    let at-mark-on4 = c .before in
+    let at-mark-on3 = at-mark-on4 .before .before in
+    let at-opponent2 = at-mark-on3 .before in
+    let at-plan-on = at-opponent2 .before .before in
+    let at-mark-on2 = at-plan-on .before .before .before in
+    let at-opponent = at-mark-on2 .before in
+    let at-mark-on = at-opponent .before .before in
+    let s = at-mark-on .before .before .before in
     let a = s .args in
     let next = planFrom (a .side) (a .left - 1) in
     let after = afterBoth (a .side) (cellsOf (a .lines .now)) (a .code) (a .eye) in
-    let on = both-cells (a .side) (a .lines .now) _ (a .code) (a .eye) (s .pre .1 .0) (s .pre .1 .2) (s .pre .1 .1) (c .before .before .before .before .before .before .before .before .before .before .opponent .ensures)
-    (c .before .before .before .before .before .before .before .before .before .before .before .before .add-on .ensures) (c .before .before .before .before .before .before .before .before .before .add-on2 .ensures) in
-    let r = c .before .before .before .before .before .before .plan-on .ensures in
+    let on = both-cells (a .side) (a .lines .now) _ (a .code) (a .eye) (s .pre .1 .0) (s .pre .1 .2) (s .pre .1 .1)
+    (at-opponent .opponent .ensures)
+    (at-mark-on .mark-on .ensures) (at-mark-on2 .mark-on2 .ensures) in
+    let r = at-plan-on .plan-on .ensures in
     let r0 = r .0 ∙ ap (λ (D : List ℕ). length (next D)) on in
     let r1 = r .1 ∙ ap (λ (D : List ℕ). sets (a .out .now) (a .at + 2) (next D)) on in
-    let back = both-back (a .side) (a .lines .now) _ (a .code) (a .eye) (s .pre .1 .0) (s .pre .1 .2) (s .pre .1 .1) (c .before .before .before .before .before .before .before .before .before .before .opponent .ensures)
-    (c .before .before .before .before .before .before .before .before .before .before .before .before .add-on .ensures) (c .before .before .before .before .before .before .before .before .before .add-on2 .ensures) (c .before .before .before .before .opponent2 .ensures) (r .2) (c .before .before .before .lift-on .ensures) (c .before .lift-on2 .ensures) in
+    let back = both-back (a .side) (a .lines .now) _ (a .code) (a .eye) (s .pre .1 .0) (s .pre .1 .2) (s .pre .1 .1)
+    (at-opponent .opponent .ensures)
+    (at-mark-on .mark-on .ensures) (at-mark-on2 .mark-on2 .ensures) (at-opponent2 .opponent2 .ensures) (r .2) (at-mark-on3 .mark-on3 .ensures)
+    (at-mark-on4 .mark-on4 .ensures) in
     let some : length (next after) ≡ 0 → ⊥ = λ z. c .if2 .left (r0 ∙ z) in
     let g = gives (a .out .now) (a .at) (line-forced (a .side) next (cellsOf (a .lines .now)) (a .code) (a .eye) (s .pre .1 .2)) in (
       ap (λ (n : ℕ). n + 2) r0 ∙ two-longer (a .out .now) (a .at) (a .code) (a .eye) (next after) some ∙ g .0,
@@ -280,7 +337,8 @@ plan-on-returns :
     plan-on-Inv-loop
     plan-on-μ-loop
 plan-on-returns t c =
-    let a = c .before .args in
+    let s = c .before in
+    let a = s .args in
     let g = gives (a .out .now) (a .at) (plan-zero (a .side) (a .left) (cellsOf (a .lines .now)) (c .if1 .taken)) in
     (g .0, g .1, refl)
 
@@ -295,13 +353,17 @@ plan-on-loop-holds :
 plan-on-loop-holds t c =
     (refl, refl, omega arith, first-none _)
 
-plan-on-attack-on-requires : (t : ℕ) → plan-on-lts.Need-attack-on-requires (plan-on-calls t) (plan-on-at t) plan-on.Post plan-on-Inv-loop plan-on-μ-loop
+plan-on-attack-on-requires : (t : ℕ)
+    → plan-on-lts.Need-attack-on-requires (plan-on-calls t) (plan-on-at t) plan-on.Post plan-on-Inv-loop plan-on-μ-loop
 plan-on-attack-on-requires t c κs =
-    let s = c .before .before .before .before .before in
+    let at-loop-test = c .before .before in
+    let at-loop = at-loop-test .before in
+    let at-if1 = at-loop .before in
+    let s = at-if1 .before in
     let a = s .args in
-    let i = c .before .before .before .loop .inv in
+    let i = at-loop .loop .inv in
     let m = s .pre .0 in
-    let h : 0 < a .left = omega (arith, c .before .before .before .before .if1 .left) in (
+    let h : 0 < a .left = omega (arith, at-if1 .if1 .left) in (
       omega arith,
       (
         subst Sound (sym (i .0)) (s .pre .1 .0),
@@ -309,7 +371,7 @@ plan-on-attack-on-requires t c κs =
         subst (λ (l : List ℕ). Quiet (a .side) (cellsOf l)) (sym (i .0)) (s .pre .1 .2),
         s .pre .1 .3,
         h,
-        omega (arith, c .before .before .loop-test .taken),
+        omega (arith, at-loop-test .loop-test .taken),
       ),
     )
 
@@ -322,18 +384,22 @@ plan-on-returns-2 :
     plan-on-Inv-loop
     plan-on-μ-loop
 plan-on-returns-2 t c =
-    let s = c .before .before .before .before .before .before .before in
+    let at-attack-on = c .before in
+    let at-loop-test = at-attack-on .before .before .before in
+    let at-loop = at-loop-test .before in
+    let at-if1 = at-loop .before in
+    let s = at-if1 .before in
     let a = s .args in
     let C = cellsOf (a .lines .now) in
-    let i = c .before .before .before .before .before .loop .inv in
-    let p = c .before .before .before .before .before .loop .p in
+    let i = at-loop .loop .inv in
+    let p = at-loop .loop .p in
     let next = planFrom (a .side) (a .left - 1) in
-    let r = c .before .attack-on .ensures in
+    let r = at-attack-on .attack-on .ensures in
     let r0 = r .0 ∙ ap (λ (l : List ℕ). length (lineFrom (a .side) next (cellsOf l) p)) (i .0) in
-    let r1 = r .1 ∙ ap (λ (u : List ℕ). sets u (a .at) (lineFrom (a .side) next (cellsOf (c .before .before .before .before .before .loop .lines)) p)) (i .1)
+    let r1 = r .1 ∙ ap (λ (u : List ℕ). sets u (a .at) (lineFrom (a .side) next (cellsOf (at-loop .loop .lines)) p)) (i .1)
     ∙ ap (λ (l : List ℕ). sets (a .out .now) (a .at) (lineFrom (a .side) next (cellsOf l) p)) (i .0) in
-    let g = gives (a .out .now) (a .at) (plan-step (a .side) (a .left) C (c .before .before .before .before .before .before .if1 .left)
-    ∙ first-here (lineFrom (a .side) next C) p (i .3) (λ z. c .if2 .taken (r0 ∙ z)) 225 (c .before .before .before .before .loop-test .taken)) in
+    let g = gives (a .out .now) (a .at) (plan-step (a .side) (a .left) C (at-if1 .if1 .left)
+    ∙ first-here (lineFrom (a .side) next C) p (i .3) (λ z. c .if2 .taken (r0 ∙ z)) 225 (at-loop-test .loop-test .taken)) in
     (r0 ∙ g .0, r1 ∙ g .1, r .2 ∙ i .0)
 
 plan-on-add-p :
@@ -367,20 +433,23 @@ plan-on-loop-again :
     plan-on-Inv-loop
     plan-on-μ-loop
 plan-on-loop-again t c =
-    let s = c .before .before .before .before .before .before .before in
+    let at-attack-on = c .before in
+    let at-loop-test = at-attack-on .before .before .before in
+    let at-loop = at-loop-test .before in
+    let s = at-loop .before .before in
     let a = s .args in
     let C = cellsOf (a .lines .now) in
-    let i = c .before .before .before .before .before .loop .inv in
-    let p = c .before .before .before .before .before .loop .p in
+    let i = at-loop .loop .inv in
+    let p = at-loop .loop .p in
     let next = planFrom (a .side) (a .left - 1) in
-    let r = c .before .attack-on .ensures in
+    let r = at-attack-on .attack-on .ensures in
     let r0 = r .0 ∙ ap (λ (l : List ℕ). length (lineFrom (a .side) next (cellsOf l) p)) (i .0) in
-    let r1 = r .1 ∙ ap (λ (u : List ℕ). sets u (a .at) (lineFrom (a .side) next (cellsOf (c .before .before .before .before .before .loop .lines)) p)) (i .1)
+    let r1 = r .1 ∙ ap (λ (u : List ℕ). sets u (a .at) (lineFrom (a .side) next (cellsOf (at-loop .loop .lines)) p)) (i .1)
     ∙ ap (λ (l : List ℕ). sets (a .out .now) (a .at) (lineFrom (a .side) next (cellsOf l) p)) (i .0) in
     let z = sym (c .if2 .left) ∙ r0 in (
       r .2 ∙ i .0,
       r1 ∙ ap (sets (a .out .now) (a .at)) (nil-of (lineFrom (a .side) next C p) z),
-      omega (arith, c .before .before .before .before .loop-test .taken),
+      omega (arith, at-loop-test .loop-test .taken),
       first-more (lineFrom (a .side) next C) p (i .3) z,
     )
 
@@ -393,13 +462,15 @@ plan-on-returns-3 :
     plan-on-Inv-loop
     plan-on-μ-loop
 plan-on-returns-3 t c =
-    let s = c .before .before .before in
+    let at-loop = c .before in
+    let at-if1 = at-loop .before in
+    let s = at-if1 .before in
     let a = s .args in
     let C = cellsOf (a .lines .now) in
-    let i = c .before .loop .inv in
+    let i = at-loop .loop .inv in
     let next = planFrom (a .side) (a .left - 1) in
-    let e : c .before .loop .p ≡ 225 = omega (arith, c .loop-test .left, i .2) in
-    let g = gives (a .out .now) (a .at) (plan-step (a .side) (a .left) C (c .before .before .if1 .left)
+    let e : at-loop .loop .p ≡ 225 = omega (arith, c .loop-test .left, i .2) in
+    let g = gives (a .out .now) (a .at) (plan-step (a .side) (a .left) C (at-if1 .if1 .left)
     ∙ ap (λ (n : ℕ). firstLine n (lineFrom (a .side) next C)) (sym e) ∙ i .3) in
     (g .0, i .1 ∙ g .1, i .0)
 
@@ -421,15 +492,15 @@ pub +attack-on+forced-on+plan-on-spec : {M : Type 1} → statement M
     (forced-on-at t)
     forced-on.Post
     (forced-on-returns t)
-    (forced-on-add-on-requires t)
+    (forced-on-mark-on-requires t)
     (forced-on-opponent-requires t)
-    (forced-on-add-on-requires-2 t)
+    (forced-on-mark-on-requires-2 t)
     (forced-on-sub-plan-on t)
     (forced-on-add-plan-on t)
     (forced-on-plan-on-requires t)
     (forced-on-opponent-requires-2 t)
-    (forced-on-lift-on-requires t)
-    (forced-on-lift-on-requires-2 t)
+    (forced-on-mark-on-requires-3 t)
+    (forced-on-mark-on-requires-4 t)
     (forced-on-returns-2 t)
     (forced-on-element-write-out t)
     (forced-on-add-out t)
