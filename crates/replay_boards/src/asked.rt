@@ -1,13 +1,13 @@
 // Questions about cells, asked of the host functions: each answers a word, and writes its list or its cells to a lent buffer. A question is
 // the letter of a record that holds a list, and its fields; or `v`, and the number of a view.
-use host::renju_empty_points;
-use host::renju_forbidden_points;
-use host::renju_four_eyes_on;
-use host::renju_neighbors;
-use host::renju_rows;
-use host::renju_rows_on;
-use host::renju_stones;
-use host::renju_turn;
+use renju::renju_empty_points;
+use renju::renju_forbidden_points;
+use renju::renju_four_eyes_on;
+use renju::renju_neighbors;
+use renju::renju_rows;
+use renju::renju_rows_on;
+use renju::renju_stones;
+use renju::renju_turn;
 use lent::head;
 use records::answer;
 use records::byte_at;

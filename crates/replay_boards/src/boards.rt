@@ -3,7 +3,7 @@ use super::changes::replay_changes;
 use super::views::replay_views;
 use board::Board;
 use board::BoardAnswer;
-use host::renju_stones;
+use renju::renju_stones;
 use lent::head;
 use records::answer;
 use records::holds;

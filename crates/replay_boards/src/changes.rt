@@ -1,6 +1,6 @@
 // Cells changed where they stand: stones put and removed.
-use host::renju_put;
-use host::renju_remove;
+use renju::renju_put;
+use renju::renju_remove;
 use records::answer;
 use records::holds;
 use records::refusal_word;

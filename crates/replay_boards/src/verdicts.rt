@@ -1,7 +1,7 @@
 // Records that hold a verdict for every point: `s` and `S` the strict ones, `p` and `P` the plain ones.
 use board::Board;
-use host::renju_forbidden;
-use host::renju_forbidden_strict;
+use renju::renju_forbidden;
+use renju::renju_forbidden_strict;
 use lent::head;
 use records::answer;
 use records::byte_at;

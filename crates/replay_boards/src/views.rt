@@ -3,7 +3,7 @@ use super::asked::answers;
 use super::asked::refuses;
 use super::asked::replay_room;
 use super::asked::replay_unsound;
-use host::renju_turn_point;
+use renju::renju_turn_point;
 use lent::head;
 use point::undone;
 use records::answer;

@@ -1,7 +1,7 @@
 // The questions about a line alone that the host answers, each past its bounds.
-use host::renju_line_eyes;
-use host::renju_line_starts;
-use host::renju_line_starts_on;
+use renju::renju_line_eyes;
+use renju::renju_line_starts;
+use renju::renju_line_starts_on;
 use line::Line;
 use records::answer;
 use records::refusal_word;

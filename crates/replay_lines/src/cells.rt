@@ -3,7 +3,7 @@ use super::fields::colour_of;
 use super::fields::kind_of;
 use super::fields::line_of;
 use super::fields::mask_of;
-use host::renju_line_starts_on;
+use renju::renju_line_starts_on;
 use line::Line;
 use line::SegmentAnswer;
 use masks::bit_at;

@@ -2,7 +2,7 @@
 use super::fields::colour_of;
 use super::fields::kind_of;
 use super::fields::line_of;
-use host::renju_line_starts;
+use renju::renju_line_starts;
 use line::Line;
 use line::SegmentAnswer;
 use masks::bit_at;

@@ -6,7 +6,7 @@ use super::answers::offset_word;
 use super::answers::place_is;
 use super::answers::point_word;
 use super::answers::word_at;
-use host::renju_turn_point;
+use renju::renju_turn_point;
 use point::Index;
 use point::Point;
 use point::PointAnswer;

@@ -1,6 +1,0 @@
--- What the contracts of `host` cite beside the rules.
-pub mod Answers
-pub mod Feeds
-pub mod Games
-pub mod Depths
-pub mod Hints

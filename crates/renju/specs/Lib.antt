@@ -1,0 +1,6 @@
+-- What the contracts of `renju` cite beside the rules.
+pub mod Answers
+pub mod Feeds
+pub mod Games
+pub mod Depths
+pub mod Hints
