@@ -46,7 +46,7 @@
 //!
 //! # Whole games
 //!
-//! [`Game::report`] reads a list of moves to its first faulty one, or to its winner, and hands the
+//! [`Moves::report`] reads a list of moves to its first faulty one, or to its winner, and hands the
 //! board back.
 //!
 //! # Checks at night
@@ -56,7 +56,7 @@
 //!
 //! # Stored games
 //!
-//! A [`Record`] is a [`Game`] with the view that it is shown in, in the tagged form; games of the
+//! A [`Record`] is a [`Moves`] with the view that it is shown in, in the tagged form; games of the
 //! old form, a point's code for each move, become records and come back.
 //!
 //! # A thin client
@@ -66,7 +66,7 @@
 //!
 //! # Games from and for other programs
 //!
-//! [`sgf`] writes a [`Game`] as SGF text and reads it back.
+//! [`sgf`] writes a [`Moves`] as SGF text and reads it back.
 //!
 //! # Typed move lists
 //!
@@ -81,7 +81,7 @@
 //!
 //! What can be refused is a `Result` with a [`Refusal`], which has the number that the Rattle and
 //! the C functions give too. Numbers and bytes from outside are tested where they become a
-//! [`Point`], a [`Colour`], a [`Kind`], a [`View`], a [`Line`], a [`Game`], a [`Record`] or
+//! [`Point`], a [`Colour`], a [`Kind`], a [`View`], a [`Line`], a [`Moves`], a [`Record`] or
 //! [`Cells`]; after that there is little left to refuse.
 //!
 //! "Document 01" in this crate is the project's paper on the rules and the refusals; its sentences
@@ -94,7 +94,7 @@
 mod cells;
 mod colour;
 pub mod feed;
-mod game;
+mod moves;
 mod hint;
 mod kind;
 mod line;
@@ -115,7 +115,7 @@ mod view;
 
 pub use cells::{Cells, Counts};
 pub use colour::Colour;
-pub use game::{Fault, Game, Reason, Report};
+pub use moves::{Fault, Moves, Reason, Report};
 pub use hint::{Limit, WinLine};
 pub use kind::Kind;
 pub use line::Line;
@@ -199,10 +199,10 @@ pub const ROWS_ON: usize = 20;
 /// How many moves a game may have: one for each point.
 ///
 /// ```
-/// use renju::{Game, Refusal};
+/// use renju::{Moves, Refusal};
 ///
-/// assert!(Game::from_codes(&[0; renju::MOVES]).is_ok());
-/// assert_eq!(Game::from_codes(&[0; renju::MOVES + 1]), Err(Refusal::ManyMoves));
+/// assert!(Moves::from_codes(&[0; renju::MOVES]).is_ok());
+/// assert_eq!(Moves::from_codes(&[0; renju::MOVES + 1]), Err(Refusal::ManyMoves));
 /// ```
 pub const MOVES: usize = 225;
 
@@ -227,9 +227,9 @@ pub const LINE: usize = 11;
 /// How many bytes a stored game in tagged form can have: 7, and 225 moves.
 ///
 /// ```
-/// use renju::{Game, Record, View};
+/// use renju::{Moves, Record, View};
 ///
-/// let game = Game::from_codes(&[0; renju::MOVES])?;
+/// let game = Moves::from_codes(&[0; renju::MOVES])?;
 /// assert_eq!(Record::new(View::Same, game).to_bytes().len(), renju::RECORD);
 /// # Ok::<(), renju::Refusal>(())
 /// ```
@@ -238,9 +238,9 @@ pub const RECORD: usize = 232;
 /// How many bytes a game's SGF text can have: 14, and six for each of 225 moves.
 ///
 /// ```
-/// use renju::{Game, sgf};
+/// use renju::{Moves, sgf};
 ///
-/// let game = Game::from_codes(&[0; renju::MOVES])?;
+/// let game = Moves::from_codes(&[0; renju::MOVES])?;
 /// assert_eq!(sgf::write(&game).len(), renju::SGF);
 /// # Ok::<(), renju::Refusal>(())
 /// ```

@@ -2,43 +2,43 @@
 
 use crate::raw::{renju_from_tagged, renju_tagged_view, renju_to_tagged};
 use crate::refusal::{answer, given};
-use crate::{Game, List, MOVES, RECORD, Refusal, View};
+use crate::{Moves, List, MOVES, RECORD, Refusal, View};
 
 /// A stored game: the game, and the view that it is shown in.
 ///
 /// Its bytes are two fields, each a tag, a length in two bytes, high byte
 /// first, and a value: tag 1 the view, one byte, 0 to 7; then tag 2 the moves,
 /// a point's code each; nothing after. In the old form a game is the codes
-/// alone, which [`Game::from_codes`] reads.
+/// alone, which [`Moves::from_codes`] reads.
 ///
 /// # Examples
 ///
 /// ```
-/// use renju::{Game, Record, Refusal, View};
+/// use renju::{Moves, Record, Refusal, View};
 ///
-/// let record = Record::new(View::LeftRight, Game::from_codes(&[112, 128])?);
+/// let record = Record::new(View::LeftRight, Moves::from_codes(&[112, 128])?);
 /// let bytes = record.to_bytes();
 /// assert_eq!(bytes[..], [1, 0, 1, 4, 2, 0, 2, 112, 128]);
 /// assert_eq!(Record::try_from(&bytes[..]), Ok(record));
 /// assert_eq!(Record::try_from(&bytes[..8]), Err(Refusal::Malformed));
 ///
 /// // The referee's report of a stored game.
-/// let report = Record::try_from(&bytes[..])?.game().report();
+/// let report = Record::try_from(&bytes[..])?.moves().report();
 /// assert_eq!(report.to_string(), "no fault, nobody has won");
 /// # Ok::<(), Refusal>(())
 /// ```
 #[derive(Clone, Copy, Debug, PartialEq, Eq, Hash)]
 pub struct Record {
     view: View,
-    game: Game,
+    game: Moves,
 }
 
 /// The bytes of a record.
 ///
 /// ```
-/// use renju::{Game, Record, RecordBytes, View};
+/// use renju::{Moves, Record, RecordBytes, View};
 ///
-/// let bytes: RecordBytes = Record::new(View::Same, Game::from_codes(&[])?).to_bytes();
+/// let bytes: RecordBytes = Record::new(View::Same, Moves::from_codes(&[])?).to_bytes();
 /// assert_eq!(bytes[..], [1, 0, 1, 0, 2, 0, 0]);
 /// # Ok::<(), renju::Refusal>(())
 /// ```
@@ -52,22 +52,22 @@ impl Record {
     /// [`View::Same`].
     ///
     /// ```
-    /// use renju::{Game, Record, View};
+    /// use renju::{Moves, Record, View};
     ///
-    /// let record = Record::new(View::Same, Game::from_codes(&[112])?);
+    /// let record = Record::new(View::Same, Moves::from_codes(&[112])?);
     /// assert_eq!(record.to_codes()?[..], [112]);
     /// # Ok::<(), renju::Refusal>(())
     /// ```
-    pub const fn new(view: View, game: Game) -> Self {
+    pub const fn new(view: View, game: Moves) -> Self {
         Self { view, game }
     }
 
     /// The view that the game is shown in.
     ///
     /// ```
-    /// use renju::{Game, Record, View};
+    /// use renju::{Moves, Record, View};
     ///
-    /// let record = Record::new(View::HalfTurn, Game::from_codes(&[])?);
+    /// let record = Record::new(View::HalfTurn, Moves::from_codes(&[])?);
     /// assert_eq!(record.view(), View::HalfTurn);
     /// # Ok::<(), renju::Refusal>(())
     /// ```
@@ -81,19 +81,19 @@ impl Record {
     /// use renju::Record;
     ///
     /// let record = Record::try_from(&[1, 0, 1, 7, 2, 0, 2, 112, 128][..])?;
-    /// assert!(record.game().moves().eq(["H8".parse()?, "I9".parse()?]));
+    /// assert!(record.moves().points().eq(["H8".parse()?, "I9".parse()?]));
     /// # Ok::<(), renju::Refusal>(())
     /// ```
-    pub const fn game(&self) -> &Game {
+    pub const fn moves(&self) -> &Moves {
         &self.game
     }
 
     /// The bytes of the record, which read back as the same record.
     ///
     /// ```
-    /// use renju::{Game, Record, View};
+    /// use renju::{Moves, Record, View};
     ///
-    /// let record = Record::new(View::Same, Game::from_codes(&[112])?);
+    /// let record = Record::new(View::Same, Moves::from_codes(&[112])?);
     /// assert_eq!(record.to_bytes()[..], [1, 0, 1, 0, 2, 0, 1, 112]);
     /// # Ok::<(), renju::Refusal>(())
     /// ```
@@ -109,9 +109,9 @@ impl Record {
     /// another view than 0, which the old form cannot say.
     ///
     /// ```
-    /// use renju::{Game, Record, Refusal, View};
+    /// use renju::{Moves, Record, Refusal, View};
     ///
-    /// let game = Game::from_codes(&[112])?;
+    /// let game = Moves::from_codes(&[112])?;
     /// assert_eq!(Record::new(View::Same, game).to_codes()?[..], [112]);
     /// assert_eq!(Record::new(View::HalfTurn, game).to_codes(), Err(Refusal::TurnedView));
     /// # Ok::<(), Refusal>(())
@@ -142,7 +142,7 @@ impl TryFrom<&[u8]> for Record {
     fn try_from(bytes: &[u8]) -> Result<Self, Refusal> {
         // A view is 0 to 7, so the low byte has it whole.
         let view = View::from_number(answer(renju_tagged_view(bytes))? as u8)?;
-        let game = Game::from_codes(bytes.get(FRONT..).unwrap_or_default())?;
+        let game = Moves::from_codes(bytes.get(FRONT..).unwrap_or_default())?;
         Ok(Self { view, game })
     }
 }

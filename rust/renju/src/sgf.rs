@@ -9,14 +9,14 @@
 
 use crate::raw::{renju_from_sgf, renju_to_sgf};
 use crate::refusal::{answer, given};
-use crate::{Game, List, MOVES, Refusal, SGF};
+use crate::{Moves, List, MOVES, Refusal, SGF};
 
 /// The bytes of a game's SGF text, all below 128.
 ///
 /// ```
-/// use renju::{Game, sgf};
+/// use renju::{Moves, sgf};
 ///
-/// let text: sgf::Text = sgf::write(&Game::from_codes(&[])?);
+/// let text: sgf::Text = sgf::write(&Moves::from_codes(&[])?);
 /// assert_eq!(&text[..], b"(;GM[4]SZ[15])");
 /// # Ok::<(), renju::Refusal>(())
 /// ```
@@ -25,13 +25,13 @@ pub type Text = List<u8, SGF>;
 /// The SGF text of a game, which reads back as the same game.
 ///
 /// ```
-/// use renju::{Game, sgf};
+/// use renju::{Moves, sgf};
 ///
-/// let text = sgf::write(&Game::from_codes(&[112, 128])?);
+/// let text = sgf::write(&Moves::from_codes(&[112, 128])?);
 /// assert_eq!(&text[..], b"(;GM[4]SZ[15];B[hh];W[ig])");
 /// # Ok::<(), renju::Refusal>(())
 /// ```
-pub fn write(game: &Game) -> Text {
+pub fn write(game: &Moves) -> Text {
     let mut bytes = [0; SGF];
     // At most 225 moves, each a point, and room for all: never refused.
     let length = given(renju_to_sgf(game.as_codes(), &mut bytes));
@@ -49,8 +49,8 @@ pub fn write(game: &Game) -> Text {
 /// assert_eq!(sgf::read(b"(;GM[4]SZ[15];W[hh])"), Err(Refusal::OutsideSubset));
 /// # Ok::<(), Refusal>(())
 /// ```
-pub fn read(text: &[u8]) -> Result<Game, Refusal> {
+pub fn read(text: &[u8]) -> Result<Moves, Refusal> {
     let mut codes = [0; MOVES];
     let count = answer(renju_from_sgf(text, &mut codes))?;
-    Game::from_codes(codes.get(..count.into()).unwrap_or_default())
+    Moves::from_codes(codes.get(..count.into()).unwrap_or_default())
 }

@@ -1,7 +1,7 @@
 //! No question about a board touches the heap.
 
 use renju::feed::{Client, Server, missing};
-use renju::{Cells, Colour, Game, Kind, Limit, Point, Record, View, second};
+use renju::{Cells, Colour, Moves, Kind, Limit, Point, Record, View, second};
 use std::alloc::{GlobalAlloc, Layout, System};
 use std::cell::Cell;
 use std::fmt::{self, Write};
@@ -52,7 +52,7 @@ fn ask_the_second(cells: &Cells, point: Point) {
     black_box(second::forbidden_points(cells));
 }
 
-fn store(game: Game) {
+fn store(game: Moves) {
     let bytes = Record::new(View::HalfTurn, game).to_bytes();
     let record = Record::try_from(bytes.as_slice()).unwrap();
     black_box(record.to_codes()).unwrap_err();
@@ -99,7 +99,7 @@ fn ask_everything(bytes: &[u8], text: &[u8], point: Point) {
     for cross in &cells.turned(View::HalfTurn).forbidden_points() {
         write!(Nowhere, "{cross}").unwrap();
     }
-    let game = Game::new(&[point, point]).unwrap();
+    let game = Moves::new(&[point, point]).unwrap();
     write!(Nowhere, "{}", game.report()).unwrap();
     ask_the_second(&cells, point);
     store(game);

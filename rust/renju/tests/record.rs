@@ -1,7 +1,7 @@
 //! Stored games: records made, written, read and refused.
 
 use renju::raw::{renju_from_tagged, renju_tagged_view, renju_to_tagged};
-use renju::{CELLS, Game, MOVES, RECORD, Record, Refusal, View};
+use renju::{CELLS, Moves, MOVES, RECORD, Record, Refusal, View};
 
 /// A game of every length, as codes; every fifteenth point is met again.
 fn games() -> impl Iterator<Item = Vec<u8>> {
@@ -9,8 +9,8 @@ fn games() -> impl Iterator<Item = Vec<u8>> {
     (0..=MOVES).map(move |length| (0..length).map(|number| code(length, number)).collect())
 }
 
-fn game(codes: &[u8]) -> Game {
-    Game::from_codes(codes).expect("at most 225 codes below 225")
+fn game(codes: &[u8]) -> Moves {
+    Moves::from_codes(codes).expect("at most 225 codes below 225")
 }
 
 #[test]
@@ -18,7 +18,7 @@ fn every_length_in_every_view() {
     for codes in games() {
         for view in View::ALL {
             let record = Record::new(view, game(&codes));
-            assert_eq!((record.view(), *record.game()), (view, game(&codes)));
+            assert_eq!((record.view(), *record.moves()), (view, game(&codes)));
             let bytes = record.to_bytes();
             let length = (codes.len() as u16).to_be_bytes();
             let front = [1, 0, 1, view.number(), 2, length[0], length[1]];

@@ -1,14 +1,14 @@
 //! Games to and from SGF: written, read, refused.
 
 use renju::raw::{renju_from_sgf, renju_to_sgf};
-use renju::{CELLS, Game, MOVES, Refusal, SGF, sgf};
+use renju::{CELLS, Moves, MOVES, Refusal, SGF, sgf};
 
 /// A game of every length, as codes; every fifteenth point is met again.
-fn games() -> impl Iterator<Item = Game> {
+fn games() -> impl Iterator<Item = Moves> {
     let code = |length: usize, number: usize| ((number * 16 + length) % CELLS) as u8;
     (0..=MOVES).map(move |length| {
         let codes: Vec<u8> = (0..length).map(|number| code(length, number)).collect();
-        Game::from_codes(&codes).expect("at most 225 codes below 225")
+        Moves::from_codes(&codes).expect("at most 225 codes below 225")
     })
 }
 
@@ -32,7 +32,7 @@ fn tokens(text: &str) -> Vec<String> {
     found
 }
 
-fn text_of(game: &Game) -> String {
+fn text_of(game: &Moves) -> String {
     String::from_utf8(sgf::write(game).to_vec()).expect("bytes below 128")
 }
 
@@ -40,7 +40,7 @@ fn text_of(game: &Game) -> String {
 fn every_length_reads_back() {
     for game in games() {
         let text = sgf::write(&game);
-        assert_eq!(text.len(), 14 + 6 * game.moves().len());
+        assert_eq!(text.len(), 14 + 6 * game.points().len());
         assert_eq!(sgf::read(&text), Ok(game));
     }
 }
@@ -48,7 +48,7 @@ fn every_length_reads_back() {
 #[test]
 fn every_point() {
     for code in 0..CELLS as u8 {
-        let game = Game::from_codes(&[code]).expect("a point");
+        let game = Moves::from_codes(&[code]).expect("a point");
         let (column, row) = (b'a' + code / 15, b'o' - code % 15);
         let text = format!(
             "(;GM[4]SZ[15];B[{}{}])",
@@ -63,7 +63,7 @@ fn every_point() {
 
 #[test]
 fn white_space_around_tokens() {
-    let game = Game::from_codes(&[112, 128, 0]).expect("points");
+    let game = Moves::from_codes(&[112, 128, 0]).expect("points");
     let tokens = tokens(&text_of(&game));
     for space in [" ", "\n", "\t\x0b\x0c\r \n"] {
         assert_eq!(reads(&tokens.join(space)), Ok(vec![112, 128, 0]));

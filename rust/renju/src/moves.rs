@@ -8,35 +8,35 @@ use std::fmt;
 /// A recorded game: at most 225 points in the order of play, Black's first.
 ///
 /// Nothing is tested of it but that each move names a point; what is wrong with the play is for
-/// [`Game::report`] to say. It is plain data by value, as [`Cells`] is.
+/// [`Moves::report`] to say. It is plain data by value, as [`Cells`] is.
 ///
 /// # Examples
 ///
 /// ```
-/// use renju::{Game, Point, Refusal};
+/// use renju::{Moves, Point, Refusal};
 ///
 /// let points: Result<Vec<Point>, Refusal> =
 ///     "G8,A1,I8,A3,H7,A5,H9,A7,H8".split(',').map(str::parse).collect();
-/// let report = Game::new(&points?)?.report();
+/// let report = Moves::new(&points?)?.report();
 /// assert_eq!(report.to_string(), "move 9 (H8): forbidden, DoubleThree");
 /// # Ok::<(), Refusal>(())
 /// ```
 #[derive(Clone, Copy, PartialEq, Eq, Hash)]
-pub struct Game {
+pub struct Moves {
     // The codes of the moves, then zeros.
     codes: [u8; MOVES],
     length: u8,
 }
 
-impl Game {
+impl Moves {
     /// The game of these points; refusal 14 for more than 225.
     ///
     /// ```
-    /// use renju::{Game, Refusal};
+    /// use renju::{Moves, Refusal};
     ///
     /// let h8 = "H8".parse()?;
-    /// assert_eq!(Game::new(&[h8])?.moves().collect::<Vec<_>>(), [h8]);
-    /// assert_eq!(Game::new(&[h8; 226]), Err(Refusal::ManyMoves));
+    /// assert_eq!(Moves::new(&[h8])?.points().collect::<Vec<_>>(), [h8]);
+    /// assert_eq!(Moves::new(&[h8; 226]), Err(Refusal::ManyMoves));
     /// # Ok::<(), renju::Refusal>(())
     /// ```
     pub fn new(points: &[Point]) -> Result<Self, Refusal> {
@@ -46,11 +46,11 @@ impl Game {
     /// The game of these codes; refusal 14 for more than 225, then 8 for a code over 224.
     ///
     /// ```
-    /// use renju::{Game, Refusal};
+    /// use renju::{Moves, Refusal};
     ///
-    /// assert_eq!(Game::from_codes(&[112, 0])?.moves().len(), 2);
-    /// assert_eq!(Game::from_codes(&[112, 225]), Err(Refusal::Point));
-    /// assert_eq!(Game::from_codes(&[225; 226]), Err(Refusal::ManyMoves));
+    /// assert_eq!(Moves::from_codes(&[112, 0])?.points().len(), 2);
+    /// assert_eq!(Moves::from_codes(&[112, 225]), Err(Refusal::Point));
+    /// assert_eq!(Moves::from_codes(&[225; 226]), Err(Refusal::ManyMoves));
     /// # Ok::<(), renju::Refusal>(())
     /// ```
     pub fn from_codes(codes: &[u8]) -> Result<Self, Refusal> {
@@ -79,7 +79,7 @@ impl Game {
     /// The codes of the moves.
     ///
     /// ```
-    /// assert_eq!(renju::Game::from_codes(&[112, 0])?.as_codes(), [112, 0]);
+    /// assert_eq!(renju::Moves::from_codes(&[112, 0])?.as_codes(), [112, 0]);
     /// # Ok::<(), renju::Refusal>(())
     /// ```
     pub fn as_codes(&self) -> &[u8] {
@@ -89,11 +89,11 @@ impl Game {
     /// The points in the order of play.
     ///
     /// ```
-    /// let game = renju::Game::from_codes(&[112, 0])?;
-    /// assert_eq!(game.moves().last(), Some("A1".parse()?));
+    /// let game = renju::Moves::from_codes(&[112, 0])?;
+    /// assert_eq!(game.points().last(), Some("A1".parse()?));
     /// # Ok::<(), renju::Refusal>(())
     /// ```
-    pub fn moves(&self) -> impl ExactSizeIterator<Item = Point> + DoubleEndedIterator + '_ {
+    pub fn points(&self) -> impl ExactSizeIterator<Item = Point> + DoubleEndedIterator + '_ {
         self.as_codes().iter().map(|&code| Point::given(code))
     }
 
@@ -103,10 +103,10 @@ impl Game {
     /// verdict, and after a five. Black's five is exactly five, White's five or more.
     ///
     /// ```
-    /// use renju::{Colour, Game};
+    /// use renju::{Colour, Moves};
     ///
     /// // Black plays H1 to H5, White beside them.
-    /// let game = Game::from_codes(&[105, 120, 106, 121, 107, 122, 108, 123, 109])?;
+    /// let game = Moves::from_codes(&[105, 120, 106, 121, 107, 122, 108, 123, 109])?;
     /// let report = game.report();
     /// assert_eq!(report.fault, None);
     /// assert_eq!(report.winner, Some(Colour::Black));
@@ -129,19 +129,19 @@ impl Game {
         let place = number.checked_sub(1)?;
         Some(Fault {
             number,
-            point: self.moves().nth(place.into())?,
+            point: self.points().nth(place.into())?,
             reason: Reason::from_number(reason)?,
         })
     }
 }
 
-impl fmt::Debug for Game {
+impl fmt::Debug for Moves {
     fn fmt(&self, f: &mut fmt::Formatter<'_>) -> fmt::Result {
-        f.debug_list().entries(self.moves()).finish()
+        f.debug_list().entries(self.points()).finish()
     }
 }
 
-impl TryFrom<&[u8]> for Game {
+impl TryFrom<&[u8]> for Moves {
     type Error = Refusal;
 
     fn try_from(codes: &[u8]) -> Result<Self, Refusal> {
@@ -149,7 +149,7 @@ impl TryFrom<&[u8]> for Game {
     }
 }
 
-impl TryFrom<&[Point]> for Game {
+impl TryFrom<&[Point]> for Moves {
     type Error = Refusal;
 
     fn try_from(points: &[Point]) -> Result<Self, Refusal> {
@@ -162,9 +162,9 @@ impl TryFrom<&[Point]> for Game {
 /// # Examples
 ///
 /// ```
-/// use renju::{Game, Reason};
+/// use renju::{Moves, Reason};
 ///
-/// let fault = Game::from_codes(&[112, 112])?.report().fault;
+/// let fault = Moves::from_codes(&[112, 112])?.report().fault;
 /// assert_eq!(fault.map(|fault| fault.reason), Some(Reason::Occupied));
 /// # Ok::<(), renju::Refusal>(())
 /// ```
@@ -236,7 +236,7 @@ impl fmt::Display for Reason {
 /// # Examples
 ///
 /// ```
-/// let fault = renju::Game::from_codes(&[112, 0, 112])?.report().fault;
+/// let fault = renju::Moves::from_codes(&[112, 0, 112])?.report().fault;
 /// assert_eq!(fault.map(|fault| fault.to_string()), Some("move 3 (H8): occupied".to_string()));
 /// # Ok::<(), renju::Refusal>(())
 /// ```
@@ -262,9 +262,9 @@ impl fmt::Display for Fault {
 /// # Examples
 ///
 /// ```
-/// use renju::Game;
+/// use renju::Moves;
 ///
-/// let game = Game::from_codes(&[112, 0])?;
+/// let game = Moves::from_codes(&[112, 0])?;
 /// assert_eq!(game.report().to_string(), "no fault, nobody has won");
 /// assert_eq!(game.report().cells, "H8/A1".parse()?);
 /// # Ok::<(), renju::Refusal>(())

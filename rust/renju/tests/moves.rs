@@ -1,7 +1,7 @@
 //! Whole games through the safe types: each reason, each winner, the order of the reasons, the
 //! board that is handed back, all eight views.
 
-use renju::{Cells, Colour, Game, Point, Reason, Refusal, Report, View};
+use renju::{Cells, Colour, Moves, Point, Reason, Refusal, Report, View};
 
 fn points(text: &str) -> Vec<Point> {
     let point = |word: &str| {
@@ -11,8 +11,8 @@ fn points(text: &str) -> Vec<Point> {
     text.split_whitespace().map(point).collect()
 }
 
-fn game(text: &str) -> Game {
-    Game::new(&points(text)).expect("at most 225 moves")
+fn game(text: &str) -> Moves {
+    Moves::new(&points(text)).expect("at most 225 moves")
 }
 
 fn report(text: &str) -> Report {
@@ -115,7 +115,7 @@ fn the_report_of_the_turned_moves_is_turned() {
         let said = report(text);
         for view in View::ALL {
             let turned: Vec<Point> = points(text).iter().map(|p| p.turned(view)).collect();
-            let other = Game::new(&turned).expect("as many moves").report();
+            let other = Moves::new(&turned).expect("as many moves").report();
             assert_eq!(other.winner, said.winner);
             assert_eq!(other.cells, said.cells.turned(view));
             let place = |report: &Report| report.fault.map(|fault| (fault.number, fault.reason));
@@ -126,13 +126,13 @@ fn the_report_of_the_turned_moves_is_turned() {
 
 #[test]
 fn refusals() {
-    assert_eq!(Game::from_codes(&[255; 226]), Err(Refusal::ManyMoves));
-    assert_eq!(Game::from_codes(&[0, 0, 225]), Err(Refusal::Point));
+    assert_eq!(Moves::from_codes(&[255; 226]), Err(Refusal::ManyMoves));
+    assert_eq!(Moves::from_codes(&[0, 0, 225]), Err(Refusal::Point));
     let all: Vec<u8> = (0..225).collect();
-    let full = Game::from_codes(&all).expect("225 moves");
+    let full = Moves::from_codes(&all).expect("225 moves");
     assert_eq!(full.as_codes(), all);
-    assert_eq!(Game::try_from(&all[..]), Ok(full));
+    assert_eq!(Moves::try_from(&all[..]), Ok(full));
     let [h8, i9]: [Point; 2] = ["H8", "I9"].map(|text| text.parse().expect("a point"));
-    assert_eq!(Game::try_from(&[h8, i9][..]), Ok(game("H8 I9")));
+    assert_eq!(Moves::try_from(&[h8, i9][..]), Ok(game("H8 I9")));
     assert_eq!(format!("{:?}", game("H8 I9")), "[Point(H8), Point(I9)]");
 }
