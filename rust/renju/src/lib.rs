@@ -94,12 +94,12 @@
 mod cells;
 mod colour;
 pub mod feed;
-mod moves;
 mod hint;
 mod kind;
 mod line;
 mod list;
 mod mend;
+mod moves;
 mod point;
 mod questions;
 #[allow(unsafe_code)] // The calls into the archive.
@@ -115,12 +115,12 @@ mod view;
 
 pub use cells::{Cells, Counts};
 pub use colour::Colour;
-pub use moves::{Fault, Moves, Reason, Report};
 pub use hint::{Limit, WinLine};
 pub use kind::Kind;
 pub use line::Line;
 pub use list::{Crosses, List, Points, Rows, RowsOn};
 pub use mend::{Mended, Slip, mend};
+pub use moves::{Fault, Moves, Reason, Report};
 pub use point::Point;
 pub use record::{Record, RecordBytes};
 pub use refusal::Refusal;

@@ -2,7 +2,7 @@
 
 use crate::raw::{renju_from_tagged, renju_tagged_view, renju_to_tagged};
 use crate::refusal::{answer, given};
-use crate::{Moves, List, MOVES, RECORD, Refusal, View};
+use crate::{List, MOVES, Moves, RECORD, Refusal, View};
 
 /// A stored game: the game, and the view that it is shown in.
 ///

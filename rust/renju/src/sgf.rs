@@ -9,7 +9,7 @@
 
 use crate::raw::{renju_from_sgf, renju_to_sgf};
 use crate::refusal::{answer, given};
-use crate::{Moves, List, MOVES, Refusal, SGF};
+use crate::{List, MOVES, Moves, Refusal, SGF};
 
 /// The bytes of a game's SGF text, all below 128.
 ///

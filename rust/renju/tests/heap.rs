@@ -1,7 +1,7 @@
 //! No question about a board touches the heap.
 
 use renju::feed::{Client, Server, missing};
-use renju::{Cells, Colour, Moves, Kind, Limit, Point, Record, View, second};
+use renju::{Cells, Colour, Kind, Limit, Moves, Point, Record, View, second};
 use std::alloc::{GlobalAlloc, Layout, System};
 use std::cell::Cell;
 use std::fmt::{self, Write};

@@ -1,7 +1,7 @@
 //! Stored games: records made, written, read and refused.
 
 use renju::raw::{renju_from_tagged, renju_tagged_view, renju_to_tagged};
-use renju::{CELLS, Moves, MOVES, RECORD, Record, Refusal, View};
+use renju::{CELLS, MOVES, Moves, RECORD, Record, Refusal, View};
 
 /// A game of every length, as codes; every fifteenth point is met again.
 fn games() -> impl Iterator<Item = Vec<u8>> {

@@ -136,7 +136,11 @@ fn verdicts_as_by_the_fast_one() {
     for cells in all_boards() {
         for point in Point::all() {
             let (plain, strict) = (cells.plain_verdict(point), cells.verdict(point));
-            assert_eq!(second::plain_verdict(&cells, point), plain, "{point}\n{cells}");
+            assert_eq!(
+                second::plain_verdict(&cells, point),
+                plain,
+                "{point}\n{cells}"
+            );
             let second = second::verdict(&cells, point);
             assert_eq!(second, strict, "{point}\n{cells}");
             seen.extend([plain, Ok(strict)]);

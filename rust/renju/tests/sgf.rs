@@ -1,7 +1,7 @@
 //! Games to and from SGF: written, read, refused.
 
 use renju::raw::{renju_from_sgf, renju_to_sgf};
-use renju::{CELLS, Moves, MOVES, Refusal, SGF, sgf};
+use renju::{CELLS, MOVES, Moves, Refusal, SGF, sgf};
 
 /// A game of every length, as codes; every fifteenth point is met again.
 fn games() -> impl Iterator<Item = Moves> {
