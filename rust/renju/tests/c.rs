@@ -85,7 +85,7 @@ fn example_of_the_readme() {
 
 /// The part of the root's README below a heading.
 fn below(heading: &str) -> String {
-    let readme = text("../README.md");
+    let readme = text("../../README.md");
     let (_, part) = readme.split_once(heading).expect("the heading");
     part.to_owned()
 }
