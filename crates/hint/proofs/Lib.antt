@@ -13,4 +13,5 @@ pub mod Attacks
 pub mod Checked
 pub mod Searched
 pub mod Lined
+pub mod Marks
 pub mod Fronts

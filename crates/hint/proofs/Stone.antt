@@ -134,7 +134,7 @@ module _ (cells : List ℕ) (p : ℕ) (long : length cells ≡ 225) (hp : p < 22
             along (sym same) t
 
     -- a stone of the other colour makes no row
-    scores-before : (r s : Player) (n j : ℕ) → eqb (colourNo s) (colourNo r) ≡ false
+    pub scores-before : (r s : Player) (n j : ℕ) → eqb (colourNo s) (colourNo r) ≡ false
         → T (scores (isBlack r) (lineSize d i) (stoneAt r (put s cells p) d i) (stoneAt (opponentOf r) (put s cells p) d i) n j)
         → T (scores (isBlack r) (lineSize d i) (stoneAt r cells d i) (stoneAt (opponentOf r) cells d i) n j)
     scores-before r s n j differ t =

@@ -1,14 +1,16 @@
 -- What the code sees of an attack. No public statement cites what is said here.
 use mathlib.Core.Path.{_≡_}
-use mathlib.Core.Bool.{Bool, true, false, not, _&&_, cond}
+use mathlib.Core.Bool.{Bool, true, false, not, _&&_, _||_, cond}
 use mathlib.Core.List.{List, [], _∷_}
-use Prim.Native.Nat.{ℕ, _+_, _<_}
-use lib.Dec.{T}
+use Prim.Native.Nat.{ℕ, _+_, _≤_, _<_}
+use lib.Dec.{T, eqb}
+use lib.ListN.{length, getD}
 use Rattle.rules.specs.Numbers.{isBlack, isNone, opponentOf}
 use Rattle.rules.specs.Tools.{anyBelow}
-use Rattle.rules.specs.Line.{Stones}
-use Rattle.rules.specs.Point.{lineNo, pointAt, keyDir, keyNo}
-use Rattle.rules.specs.Grid.{put, stoneAt, rowOn, rowsThrough}
+use Rattle.rules.specs.Bit.{bit, maskOf}
+use Rattle.rules.specs.Line.{Stones, holds, scores, among, eyesOf}
+use Rattle.rules.specs.Point.{xOf, yOf, lineNo, cellNo, lineCount, lineSize, pointAt, keyDir, keyNo, keyPoint}
+use Rattle.rules.specs.Grid.{isEmpty, put, stoneAt, rowOn, rowsThrough}
 use Rattle.rules.specs.Forbidden.{someRow, strictOf}
 use Rattle.rules.specs.declared.Player.{Player}
 use Rattle.rules.specs.declared.RowKind.{RowKind}
@@ -79,3 +81,50 @@ pub record NextIs (side : Player) (l m list rest : List ℕ) (goes ends : Bool) 
 -- the player has a row of the kind on the line of key k
 unfoldable pub rowOnKey : Player → RowKind → List ℕ → ℕ → Bool
 rowOnKey r kind cells k = anyBelow 16 (rowOn r kind cells (keyDir k) (keyNo k))
+
+-- ---- the points to try
+
+-- bit y of mask x is the point (x, y)
+unfoldable pub marked : List ℕ → ℕ → Bool
+marked m p = bit (getD m (xOf p) 0) (yOf p)
+
+-- what is marked stays so
+pub record Kept (m n : List ℕ) : Type 0 where
+  pub long : length n ≡ length m
+  pub still : (p : ℕ) → p < 225 → T (marked m p) → T (marked n p)
+
+-- p is marked, if it is a point and the test says so
+abbrev pub MarkedIf : Bool → ℕ → List ℕ → Type 0
+MarkedIf on p m = T on → p < 225 → T (marked m p)
+
+-- of the first n cells of the line of key k those that pass are marked
+abbrev pub MarkedCells : ℕ → ℕ → (ℕ → Bool) → List ℕ → Type 0
+MarkedCells k n at m = (j : ℕ) → j < n → MarkedIf (at j) (keyPoint k j) m
+
+-- a window of the side's on line i scores 3 or 4: a Sword or a Four starts at j
+pub record Threat (r : Player) (cells : List ℕ) (d i j : ℕ) : Type 0 where
+  pub n : ℕ
+  pub is : T (eqb n 3 || eqb n 4)
+  pub scored : T (scores (isBlack r) (lineSize d i) (stoneAt r cells d i) (stoneAt (opponentOf r) cells d i) n j)
+
+-- every empty point of line i with a Sword or a Four through it on that line is marked; on each line through p; on each line of the board
+abbrev pub MarkedLine : Player → List ℕ → ℕ → ℕ → List ℕ → Type 0
+MarkedLine r cells d i m =
+    (p j : ℕ) → p < 225 → lineNo d p ≡ i → T (isEmpty (getD cells p 0)) → T (among 5 j (cellNo d p)) → Threat r cells d i j → T (marked m p)
+
+abbrev pub MarkedThrough : Player → List ℕ → ℕ → List ℕ → Type 0
+MarkedThrough r cells p m = (d : ℕ) → d < 4 → MarkedLine r cells d (lineNo d p) m
+
+abbrev pub Covers : Player → List ℕ → List ℕ → Type 0
+Covers r cells m = (d i : ℕ) → d < 4 → i < lineCount d → MarkedLine r cells d i m
+
+-- a line's empty cells in its free windows of three own stones or four
+unfoldable pub hotCell : ℕ → Stones → Stones → ℕ → Bool
+hotCell size own other i =
+    eyesOf size own other (bit (maskOf 16 (λ j. holds size own other 3 j || holds size own other 4 j))) (bit 31) i
+
+-- the first marked point from a code on, or 225
+pub record NextTry (m : List ℕ) (from r : ℕ) : Type 0 where
+  pub le : r ≤ 225
+  pub ge : from ≤ 225 → from ≤ r
+  pub none : (p : ℕ) → from ≤ p → p < r → marked m p ≡ false

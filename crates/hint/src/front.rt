@@ -2,6 +2,7 @@
 use super::check::check_on;
 use super::fives::is_open;
 use super::plan::plan_on;
+use super::tries::tries_of;
 use cells::cells_refusal;
 use cells::codes_refusal;
 use cells::hand_out;
@@ -82,7 +83,8 @@ fn planned(cells: &[u8], side: Player, limit: u8) -> Line
         return Line { points, len: 0 };
     }
     let table = addresses();
-    let len = plan_on(&mut lines, &table, side, limit, &mut points, 0);
+    let tries = tries_of(&lines, side);
+    let len = plan_on(&mut lines, &table, side, limit, &tries, &mut points, 0);
     Line { points, len }
 }
 

@@ -7,6 +7,7 @@ mod fives;
 mod front;
 mod look;
 mod plan;
+mod tries;
 
 pub use front::win_check_of;
 pub use front::win_plan_of;

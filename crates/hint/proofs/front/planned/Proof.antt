@@ -45,9 +45,16 @@ returns c =
 addresses-requires : tie.Need-addresses-requires
 addresses-requires c κs = search needs
 
+tries-of-requires : tie.Need-tries-of-requires
+tries-of-requires c κs =
+    let at-lines-of = c .before .before .before .before .before in
+    let s = at-lines-of .before .before in
+    lines-sound (s .args .cells .now) (s .pre .0) (at-lines-of .lines-of .ensures)
+
 plan-on-requires : tie.Need-plan-on-requires
 plan-on-requires c κs =
-    let at-addresses = c .before .before .before in
+    let at-tries-of = c .before .before .before .before in
+    let at-addresses = at-tries-of .before .before in
     let at-if1 = at-addresses .before in
     let at-is-open = at-if1 .before in
     let at-lines-of = at-is-open .before .before in
@@ -58,11 +65,12 @@ plan-on-requires c κs =
       at-addresses .addresses .ensures,
       open-quiet (a .side) (cellsOf (at-lines-of .lines-of .result)) (at-is-open .is-open .ensures) (is-on (at-if1 .if1 .left)),
       omega arith,
+      at-tries-of .tries-of .ensures,
     )
 
 returns-2 : tie.Need-returns-2
 returns-2 c =
-    let at-if1 = c .before .before .before .before .before in
+    let at-if1 = c .before .before .before .before .before .before .before .before in
     let at-is-open = at-if1 .before in
     let at-lines-of = at-is-open .before .before in
     let s = at-lines-of .before .before in
@@ -84,5 +92,6 @@ planned-spec =
     is-open-requires
     returns
     addresses-requires
+    tries-of-requires
     plan-on-requires
     returns-2)

@@ -8,11 +8,13 @@ use borrow.Author.Needs.{needs}
 use lib.ListN.{length, set}
 use lib.Seq.{sets}
 use Rattle.grid.specs.Lines.{cellsOf, Sound}
+use Rattle.grid.proofs.Lines.{length-cellsOf}
 use Rattle.hint.specs.Hint.{afterBoth}
 use Rattle.hint.specs.Planner.{firstLine, lineFrom, planFrom}
-use Rattle.hint.specs.Seen.{Quiet, Forced}
-use Rattle.hint.proofs.Checked.{at-forced, both-sound, both-cells, both-quiet, both-back}
+use Rattle.hint.specs.Seen.{Quiet, Forced, Covers}
+use Rattle.hint.proofs.Checked.{at-forced, is-legal, both-sound, both-cells, both-quiet, both-back}
 use Rattle.hint.proofs.Searched.{gives, nil-of, line-no, line-end, line-forced, line-last, nothing-behind, two-longer, two-before}
+use Rattle.hint.proofs.Marks.{covers-both, skip-to}
 use Rattle.hint.proofs.Searched.{plan-zero, plan-step, first-none, first-more, first-here, plan-short}
 use borrow.Fn.Kinds.{In}
 use borrow.Fn.PlainCycle.{Measures, is, falls, and}
@@ -27,38 +29,40 @@ use Rattle.hint.proofs.plan.plan_on.Kinds as plan-on-kinds
 use Rattle.hint.proofs.plan.+attack_on+forced_on+plan_on.Lts-plan_on as plan-on-lts
 use Rattle.grid.proofs.mark_on.Reads as mark-on-reads
 use Rattle.hint.proofs.attack.attack_at.Reads as attack-at-reads
+use Rattle.hint.proofs.tries.next_try.Reads as next-try-reads
+use Rattle.hint.proofs.tries.tries_after.Reads as tries-after-reads
 use Rattle.rules.proofs.Player.opponent.Reads as opponent-reads
 use Rattle.hint.proofs.plan.+attack_on+forced_on+plan_on.{statement}
 use Rattle.hint.proofs.plan.+attack_on+forced_on+plan_on.Tie.{close}
 
-abbrev μ-attack-on : Measures 3 attack-on-kinds.ps ℕ
+abbrev μ-attack-on : Measures 4 attack-on-kinds.ps ℕ
 μ-attack-on κs a = 3 * (a .1 .1 .1 .0) + 1
 
-abbrev μ-forced-on : Measures 3 forced-on-kinds.ps ℕ
+abbrev μ-forced-on : Measures 4 forced-on-kinds.ps ℕ
 μ-forced-on κs a = 3 * (a .1 .1 .1 .0)
 
-abbrev μ-plan-on : Measures 3 plan-on-kinds.ps ℕ
+abbrev μ-plan-on : Measures 4 plan-on-kinds.ps ℕ
 μ-plan-on κs a = 3 * (a .1 .1 .1 .0) + 2
 
-abbrev attack-on-at : ℕ → In 3 attack-on-kinds.ps
-attack-on-at t = and 3 attack-on-kinds.ps (is 3 attack-on-kinds.ps μ-attack-on t) attack-on.Pre
+abbrev attack-on-at : ℕ → In 4 attack-on-kinds.ps
+attack-on-at t = and 4 attack-on-kinds.ps (is 4 attack-on-kinds.ps μ-attack-on t) attack-on.Pre
 
-abbrev attack-on-below : ℕ → In 3 attack-on-kinds.ps
+abbrev attack-on-below : ℕ → In 4 attack-on-kinds.ps
 attack-on-below t =
-    and 3 attack-on-kinds.ps (falls 3 attack-on-kinds.ps _<_ μ-attack-on t) attack-on.Pre
+    and 4 attack-on-kinds.ps (falls 4 attack-on-kinds.ps _<_ μ-attack-on t) attack-on.Pre
 
-abbrev forced-on-at : ℕ → In 3 forced-on-kinds.ps
-forced-on-at t = and 3 forced-on-kinds.ps (is 3 forced-on-kinds.ps μ-forced-on t) forced-on.Pre
+abbrev forced-on-at : ℕ → In 4 forced-on-kinds.ps
+forced-on-at t = and 4 forced-on-kinds.ps (is 4 forced-on-kinds.ps μ-forced-on t) forced-on.Pre
 
-abbrev forced-on-below : ℕ → In 3 forced-on-kinds.ps
+abbrev forced-on-below : ℕ → In 4 forced-on-kinds.ps
 forced-on-below t =
-    and 3 forced-on-kinds.ps (falls 3 forced-on-kinds.ps _<_ μ-forced-on t) forced-on.Pre
+    and 4 forced-on-kinds.ps (falls 4 forced-on-kinds.ps _<_ μ-forced-on t) forced-on.Pre
 
-abbrev plan-on-at : ℕ → In 3 plan-on-kinds.ps
-plan-on-at t = and 3 plan-on-kinds.ps (is 3 plan-on-kinds.ps μ-plan-on t) plan-on.Pre
+abbrev plan-on-at : ℕ → In 4 plan-on-kinds.ps
+plan-on-at t = and 4 plan-on-kinds.ps (is 4 plan-on-kinds.ps μ-plan-on t) plan-on.Pre
 
-abbrev plan-on-below : ℕ → In 3 plan-on-kinds.ps
-plan-on-below t = and 3 plan-on-kinds.ps (falls 3 plan-on-kinds.ps _<_ μ-plan-on t) plan-on.Pre
+abbrev plan-on-below : ℕ → In 4 plan-on-kinds.ps
+plan-on-below t = and 4 plan-on-kinds.ps (falls 4 plan-on-kinds.ps _<_ μ-plan-on t) plan-on.Pre
 
 -- what `attack-on` is told of those that it calls
 abbrev attack-on-calls : ℕ → attack-on-lts.Claims
@@ -71,13 +75,15 @@ forced-on-calls t = (
   mark-on-reads.Learnt,
   opponent-reads.Asked,
   opponent-reads.Learnt,
+  tries-after-reads.Asked,
+  tries-after-reads.Learnt,
   plan-on-below t,
   plan-on.Post,
 )
 
 -- what `plan-on` is told of those that it calls
 abbrev plan-on-calls : ℕ → plan-on-lts.Claims
-plan-on-calls t = (attack-on-below t, attack-on.Post)
+plan-on-calls t = (next-try-reads.Asked, next-try-reads.Learnt, attack-on-below t, attack-on.Post)
 
 attack-on-attack-at-requires : (t : ℕ) → attack-on-lts.Need-attack-at-requires (attack-on-calls t) (attack-on-at t) attack-on.Post
 attack-on-attack-at-requires t c κs =
@@ -117,6 +123,7 @@ attack-on-forced-on-requires t c κs =
             (at-forced (a .side) (cellsOf (a .lines .now)) (a .code) (e .0) (at-eye .eye .given .1)),
         s .pre .1 .3,
         s .pre .1 .4,
+        subst (λ (l : List ℕ). Covers (a .side) (cellsOf l) (a .tries .now)) (sym (e .1)) (s .pre .1 .6),
       ),
     )
 
@@ -173,19 +180,34 @@ forced-on-mark-on-requires-2 : (t : ℕ) → forced-on-lts.Need-mark-on-requires
 forced-on-mark-on-requires-2 t c κs =
     search needs
 
+forced-on-tries-after-requires : (t : ℕ) → forced-on-lts.Need-tries-after-requires (forced-on-calls t) (forced-on-at t) forced-on.Post
+forced-on-tries-after-requires t c κs =
+    let at-mark-on2 = c .before .before in
+    let at-opponent = at-mark-on2 .before in
+    let at-mark-on = at-opponent .before .before in
+    let s = at-mark-on .before .before .before in
+    let a = s .args in (
+      both-sound (a .side) (a .lines .now) _ (a .code) (a .eye) (s .pre .1 .0) (s .pre .1 .2) (s .pre .1 .1)
+          (at-opponent .opponent .ensures)
+          (at-mark-on .mark-on .ensures) (at-mark-on2 .mark-on2 .ensures),
+      is-legal (a .side) (cellsOf (a .lines .now)) (a .code) (a .eye) (s .pre .1 .2) .lt,
+      s .pre .1 .1,
+    )
+
 forced-on-sub-plan-on : (t : ℕ) → forced-on-lts.Need-sub-plan-on (forced-on-calls t) (forced-on-at t) forced-on.Post
 forced-on-sub-plan-on t c =
-    let s = c .before .before .before .before .before .before .before in
+    let s = c .before .before .before .before .before .before .before .before .before .before in
     omega (arith, s .pre .1 .4)
 
 forced-on-add-plan-on : (t : ℕ) → forced-on-lts.Need-add-plan-on (forced-on-calls t) (forced-on-at t) forced-on.Post
 forced-on-add-plan-on t c =
-    let s = c .before .before .before .before .before .before .before .before in
+    let s = c .before .before .before .before .before .before .before .before .before .before .before .before in
     omega (arith, s .pre .1 .3)
 
 forced-on-plan-on-requires : (t : ℕ) → forced-on-lts.Need-plan-on-requires (forced-on-calls t) (forced-on-at t) forced-on.Post
 forced-on-plan-on-requires t c κs =
-    let at-mark-on2 = c .before .before in
+    let at-tries-after = c .before .before .before in
+    let at-mark-on2 = at-tries-after .before .before .before in
     let at-opponent = at-mark-on2 .before in
     let at-mark-on = at-opponent .before .before in
     let s = at-mark-on .before .before .before in
@@ -203,6 +225,11 @@ forced-on-plan-on-requires t c κs =
             (at-opponent .opponent .ensures)
             (at-mark-on .mark-on .ensures) (at-mark-on2 .mark-on2 .ensures),
         omega arith,
+        covers-both (a .side) (cellsOf (a .lines .now)) (a .code) (a .eye) (s .pre .1 .2) (length-cellsOf (a .lines .now)) (a .tries .now) _
+            (s .pre .1 .5) (at-tries-after .tries-after .ensures .0)
+            (both-cells (a .side) (a .lines .now) _ (a .code) (a .eye) (s .pre .1 .0) (s .pre .1 .2) (s .pre .1 .1)
+            (at-opponent .opponent .ensures)
+            (at-mark-on .mark-on .ensures) (at-mark-on2 .mark-on2 .ensures)) (at-tries-after .tries-after .ensures .1),
       ),
     )
 
@@ -224,7 +251,7 @@ forced-on-returns-2 t c =
     let at-mark-on3 = at-mark-on4 .before .before in
     let at-opponent2 = at-mark-on3 .before in
     let at-plan-on = at-opponent2 .before .before in
-    let at-mark-on2 = at-plan-on .before .before .before in
+    let at-mark-on2 = at-plan-on .before .before .before .before .before .before .before in
     let at-opponent = at-mark-on2 .before in
     let at-mark-on = at-opponent .before .before in
     let s = at-mark-on .before .before .before in
@@ -248,18 +275,20 @@ forced-on-returns-2 t c =
 
 forced-on-element-write-out : (t : ℕ) → forced-on-lts.Need-element-write-out (forced-on-calls t) (forced-on-at t) forced-on.Post
 forced-on-element-write-out t c =
-    let s = c .before .before .before .before .before .before .before .before .before .before .before .before .before .before .before in
+    let at-plan-on = c .before .before .before .before .before .before in
+    let s = at-plan-on .before .before .before .before .before .before .before .before .before .before .before .before .before in
     omega (arith, s .pre .1 .3, s .pre .1 .4)
 
 forced-on-add-out : (t : ℕ) → forced-on-lts.Need-add-out (forced-on-calls t) (forced-on-at t) forced-on.Post
 forced-on-add-out t c =
-    let s = c .before .before .before .before .before .before .before .before .before .before .before .before .before .before .before in
+    let at-plan-on = c .before .before .before .before .before .before in
+    let s = at-plan-on .before .before .before .before .before .before .before .before .before .before .before .before .before in
     omega (arith, s .pre .1 .3, s .pre .1 .4)
 
 forced-on-element-write-out-2 : (t : ℕ) → forced-on-lts.Need-element-write-out-2 (forced-on-calls t) (forced-on-at t) forced-on.Post
 forced-on-element-write-out-2 t c =
     let at-plan-on = c .before .before .before .before .before .before in
-    let at-mark-on2 = at-plan-on .before .before .before in
+    let at-mark-on2 = at-plan-on .before .before .before .before .before .before .before in
     let at-opponent = at-mark-on2 .before in
     let at-mark-on = at-opponent .before .before in
     let s = at-mark-on .before .before .before in
@@ -276,7 +305,7 @@ forced-on-element-write-out-2 t c =
 forced-on-add-result : (t : ℕ) → forced-on-lts.Need-add-result (forced-on-calls t) (forced-on-at t) forced-on.Post
 forced-on-add-result t c =
     let at-plan-on = c .before .before .before .before .before .before in
-    let at-mark-on2 = at-plan-on .before .before .before in
+    let at-mark-on2 = at-plan-on .before .before .before .before .before .before .before in
     let at-opponent = at-mark-on2 .before in
     let at-mark-on = at-opponent .before .before in
     let s = at-mark-on .before .before .before in
@@ -296,7 +325,7 @@ forced-on-returns-3 t c =
     let at-mark-on3 = at-mark-on4 .before .before in
     let at-opponent2 = at-mark-on3 .before in
     let at-plan-on = at-opponent2 .before .before in
-    let at-mark-on2 = at-plan-on .before .before .before in
+    let at-mark-on2 = at-plan-on .before .before .before .before .before .before .before in
     let at-opponent = at-mark-on2 .before in
     let at-mark-on = at-opponent .before .before in
     let s = at-mark-on .before .before .before in
@@ -322,16 +351,16 @@ forced-on-returns-3 t c =
     )
 
 abbrev plan-on-Inv-loop : plan-on-lts.InvT-loop
-plan-on-Inv-loop lines₀ table side left out₀ at p₀ lines out p =
+plan-on-Inv-loop lines₀ table side left tries out₀ at p₀ lines out p =
     (lines ≡ lines₀) × (out ≡ out₀) × (p ≤ 225) × (firstLine p (lineFrom side (planFrom side (left - 1)) (cellsOf lines₀)) ≡ [])
 
 abbrev plan-on-μ-loop : plan-on-lts.MeasureT-loop
-plan-on-μ-loop lines₀ table side left out₀ at p₀ lines out p = 225 - p
+plan-on-μ-loop lines₀ table side left tries out₀ at p₀ lines out p = 225 - p
 
 plan-on-returns :
     (t : ℕ) →
     plan-on-lts.Need-returns
-    (attack-on-below t, attack-on.Post)
+    (plan-on-calls t)
     (plan-on-at t)
     plan-on.Post
     plan-on-Inv-loop
@@ -342,23 +371,43 @@ plan-on-returns t c =
     let g = gives (a .out .now) (a .at) (plan-zero (a .side) (a .left) (cellsOf (a .lines .now)) (c .if1 .taken)) in
     (g .0, g .1, refl)
 
+plan-on-next-try-requires :
+    (t : ℕ) →
+    plan-on-lts.Need-next-try-requires
+    (plan-on-calls t)
+    (plan-on-at t)
+    plan-on.Post
+    plan-on-Inv-loop
+    plan-on-μ-loop
+plan-on-next-try-requires t c κs =
+    search needs
+
 plan-on-loop-holds :
     (t : ℕ) →
     plan-on-lts.Need-loop-holds
-    (attack-on-below t, attack-on.Post)
+    (plan-on-calls t)
     (plan-on-at t)
     plan-on.Post
     plan-on-Inv-loop
     plan-on-μ-loop
 plan-on-loop-holds t c =
-    (refl, refl, omega arith, first-none _)
+    let at-if1 = c .before in
+    let s = at-if1 .before in
+    let a = s .args in
+    let n = c .next-try .ensures in (
+      refl,
+      refl,
+      n .le,
+      skip-to (a .side) (cellsOf (a .lines .now)) (length-cellsOf (a .lines .now)) (s .pre .1 .2) (a .tries .now) (s .pre .1 .4)
+          (a .left - 1) n (omega arith) (first-none _),
+    )
 
 plan-on-attack-on-requires : (t : ℕ)
     → plan-on-lts.Need-attack-on-requires (plan-on-calls t) (plan-on-at t) plan-on.Post plan-on-Inv-loop plan-on-μ-loop
 plan-on-attack-on-requires t c κs =
     let at-loop-test = c .before .before in
     let at-loop = at-loop-test .before in
-    let at-if1 = at-loop .before in
+    let at-if1 = at-loop .before .before in
     let s = at-if1 .before in
     let a = s .args in
     let i = at-loop .loop .inv in
@@ -372,13 +421,14 @@ plan-on-attack-on-requires t c κs =
         s .pre .1 .3,
         h,
         omega (arith, at-loop-test .loop-test .taken),
+        subst (λ (l : List ℕ). Covers (a .side) (cellsOf l) (a .tries .now)) (sym (i .0)) (s .pre .1 .4),
       ),
     )
 
 plan-on-returns-2 :
     (t : ℕ) →
     plan-on-lts.Need-returns-2
-    (attack-on-below t, attack-on.Post)
+    (plan-on-calls t)
     (plan-on-at t)
     plan-on.Post
     plan-on-Inv-loop
@@ -387,7 +437,7 @@ plan-on-returns-2 t c =
     let at-attack-on = c .before in
     let at-loop-test = at-attack-on .before .before .before in
     let at-loop = at-loop-test .before in
-    let at-if1 = at-loop .before in
+    let at-if1 = at-loop .before .before in
     let s = at-if1 .before in
     let a = s .args in
     let C = cellsOf (a .lines .now) in
@@ -402,68 +452,86 @@ plan-on-returns-2 t c =
     ∙ first-here (lineFrom (a .side) next C) p (i .3) (λ z. c .if2 .taken (r0 ∙ z)) 225 (at-loop-test .loop-test .taken)) in
     (r0 ∙ g .0, r1 ∙ g .1, r .2 ∙ i .0)
 
-plan-on-add-p :
+plan-on-add-next-try :
     (t : ℕ) →
-    plan-on-lts.Need-add-p
-    (attack-on-below t, attack-on.Post)
+    plan-on-lts.Need-add-next-try
+    (plan-on-calls t)
     (plan-on-at t)
     plan-on.Post
     plan-on-Inv-loop
     plan-on-μ-loop
-plan-on-add-p t c =
+plan-on-add-next-try t c =
     omega arith
+
+plan-on-next-try-requires-2 :
+    (t : ℕ) →
+    plan-on-lts.Need-next-try-requires-2
+    (plan-on-calls t)
+    (plan-on-at t)
+    plan-on.Post
+    plan-on-Inv-loop
+    plan-on-μ-loop
+plan-on-next-try-requires-2 t c κs =
+    search needs
 
 plan-on-loop-less :
     (t : ℕ) →
     plan-on-lts.Need-loop-less
-    (attack-on-below t, attack-on.Post)
+    (plan-on-calls t)
     (plan-on-at t)
     plan-on.Post
     plan-on-Inv-loop
     plan-on-μ-loop
 plan-on-loop-less t c =
-    omega arith
+    let at-loop-test = c .before .before .before .before .before in
+    let n = c .next-try2 .ensures in
+    let h = at-loop-test .loop-test .taken in
+    let g = n .ge (omega arith) in
+    omega (arith, n .le)
 
 plan-on-loop-again :
     (t : ℕ) →
     plan-on-lts.Need-loop-again
-    (attack-on-below t, attack-on.Post)
+    (plan-on-calls t)
     (plan-on-at t)
     plan-on.Post
     plan-on-Inv-loop
     plan-on-μ-loop
 plan-on-loop-again t c =
-    let at-attack-on = c .before in
+    let at-if2 = c .before in
+    let at-attack-on = at-if2 .before in
     let at-loop-test = at-attack-on .before .before .before in
     let at-loop = at-loop-test .before in
-    let s = at-loop .before .before in
+    let s = at-loop .before .before .before in
     let a = s .args in
     let C = cellsOf (a .lines .now) in
     let i = at-loop .loop .inv in
     let p = at-loop .loop .p in
     let next = planFrom (a .side) (a .left - 1) in
+    let n = c .next-try2 .ensures in
     let r = at-attack-on .attack-on .ensures in
     let r0 = r .0 ∙ ap (λ (l : List ℕ). length (lineFrom (a .side) next (cellsOf l) p)) (i .0) in
     let r1 = r .1 ∙ ap (λ (u : List ℕ). sets u (a .at) (lineFrom (a .side) next (cellsOf (at-loop .loop .lines)) p)) (i .1)
     ∙ ap (λ (l : List ℕ). sets (a .out .now) (a .at) (lineFrom (a .side) next (cellsOf l) p)) (i .0) in
-    let z = sym (c .if2 .left) ∙ r0 in (
+    let z = sym (at-if2 .if2 .left) ∙ r0 in (
       r .2 ∙ i .0,
       r1 ∙ ap (sets (a .out .now) (a .at)) (nil-of (lineFrom (a .side) next C p) z),
-      omega (arith, at-loop-test .loop-test .taken),
-      first-more (lineFrom (a .side) next C) p (i .3) z,
+      n .le,
+      skip-to (a .side) C (length-cellsOf (a .lines .now)) (s .pre .1 .2) (a .tries .now) (s .pre .1 .4) (a .left - 1) n
+          (omega (arith, at-loop-test .loop-test .taken)) (first-more (lineFrom (a .side) next C) p (i .3) z),
     )
 
 plan-on-returns-3 :
     (t : ℕ) →
     plan-on-lts.Need-returns-3
-    (attack-on-below t, attack-on.Post)
+    (plan-on-calls t)
     (plan-on-at t)
     plan-on.Post
     plan-on-Inv-loop
     plan-on-μ-loop
 plan-on-returns-3 t c =
     let at-loop = c .before in
-    let at-if1 = at-loop .before in
+    let at-if1 = at-loop .before .before in
     let s = at-if1 .before in
     let a = s .args in
     let C = cellsOf (a .lines .now) in
@@ -495,6 +563,7 @@ pub +attack-on+forced-on+plan-on-spec : {M : Type 1} → statement M
     (forced-on-mark-on-requires t)
     (forced-on-opponent-requires t)
     (forced-on-mark-on-requires-2 t)
+    (forced-on-tries-after-requires t)
     (forced-on-sub-plan-on t)
     (forced-on-add-plan-on t)
     (forced-on-plan-on-requires t)
@@ -508,16 +577,18 @@ pub +attack-on+forced-on+plan-on-spec : {M : Type 1} → statement M
     (forced-on-add-result t)
     (forced-on-returns-3 t))
     λ t. plan-on-lts.spec
-    (attack-on-below t, attack-on.Post)
+    (plan-on-calls t)
     (plan-on-at t)
     plan-on.Post
     plan-on-Inv-loop
     plan-on-μ-loop
     (plan-on-returns t)
+    (plan-on-next-try-requires t)
     (plan-on-loop-holds t)
     (plan-on-attack-on-requires t)
     (plan-on-returns-2 t)
-    (plan-on-add-p t)
+    (plan-on-add-next-try t)
+    (plan-on-next-try-requires-2 t)
     (plan-on-loop-less t)
     (plan-on-loop-again t)
     (plan-on-returns-3 t)
