@@ -1,13 +1,16 @@
 //! Hints: the host's plan and check against a plain search, written from document 02, No. 11, on 225
 //! cell values.
 //!
-//! - `plain`: what document 02 says. `boards`: positions with attacks in them.
+//! - `plain`: what document 02 says. `original`: the same search on the original's board. `boards`:
+//!   positions with attacks in them. `refused`: what is refused.
 
 pub mod boards;
+pub mod original;
 pub mod plain;
+pub mod refused;
 
 use oracle::boards::Dice;
-use plain::Cells;
+use plain::{Cells, DOCUMENT};
 use renju::raw::{renju_win_check, renju_win_plan};
 
 /// Of the short lines, how many percent are played out against every reply.
@@ -21,24 +24,26 @@ pub struct Tally {
     pub lines: u64,
     pub checks: u64,
     pub played: u64,
+    /// How often each refusal was to be given, by its number.
+    pub refusals: [u64; 22],
     pub differ: u64,
     pub first: Option<String>,
 }
 
 /// A plan by cells, side, limit and room; a check by cells, side and list.
-pub type Plan = dyn Fn(&Cells, u8, u8, &mut [u8]) -> u32;
-pub type Check = dyn Fn(&Cells, u8, &[u8]) -> u32;
+pub type Plan<'a> = dyn Fn(&[u8], u8, u8, &mut [u8]) -> u32 + 'a;
+pub type Check<'a> = dyn Fn(&[u8], u8, &[u8]) -> u32 + 'a;
 
 /// The two functions that are asked.
 pub struct Host<'a> {
-    pub plan: &'a Plan,
-    pub check: &'a Check,
+    pub plan: &'a Plan<'a>,
+    pub check: &'a Check<'a>,
 }
 
 /// Ours.
 pub const OURS: Host<'static> = Host {
-    plan: &|cells, side, limit, out| renju_win_plan(cells, side, limit, out),
-    check: &|cells, side, line| renju_win_check(cells, side, line),
+    plan: &renju_win_plan,
+    check: &renju_win_check,
 };
 
 /// Runs `count` boards, both colours, every limit.
@@ -48,14 +53,15 @@ pub fn run(host: &Host<'_>, count: u64, seed: u64) -> Tally {
     for _ in 0..count {
         let cells = boards::board(&mut dice);
         tally.boards += 1;
+        refused::compare(host, &cells, &mut dice, &mut tally);
         for side in [1, 2] {
             // Where six attacks are not enough, fewer are not.
-            let most = plain::plan(&cells, side, 6);
+            let most = DOCUMENT.plan(&cells, side, 6);
             for limit in 1..=6 {
                 let plan = match (&most, limit) {
                     (None, _) => None,
                     (Some(line), 6) => Some(line.clone()),
-                    _ => plain::plan(&cells, side, limit),
+                    _ => DOCUMENT.plan(&cells, side, limit),
                 };
                 let asked = Asked {
                     cells: &cells,
@@ -106,12 +112,12 @@ fn compare(host: &Host<'_>, asked: Asked<'_>, dice: &mut Dice, tally: &mut Tally
     for list in [line.clone(), damaged(&line, dice)] {
         tally.checks += 1;
         let word = (host.check)(cells, side, &list);
-        let is = plain::accepts(cells, side, &list);
+        let is = DOCUMENT.accepts(cells, side, &list);
         if word != u32::from(is) {
             tally.differs(format!("check {side} {list:?} {cells:?}: {word}, not {is}"));
         }
     }
-    if line.len() <= 5 && dice.chance(PLAYED) && plain::accepts(cells, side, &line) {
+    if line.len() <= 5 && dice.chance(PLAYED) && DOCUMENT.accepts(cells, side, &line) {
         tally.played += 1;
         if !plain::wins(cells, side, line.len().div_ceil(2) + 1, &line) {
             tally.differs(format!("played {side} {line:?} {cells:?}: no win"));
@@ -140,9 +146,18 @@ impl Tally {
 
     pub fn report(&self) -> String {
         let first = self.first.as_deref().unwrap_or("");
+        let given = self.refusals.iter().enumerate();
+        let given = given.filter(|(_, times)| **times > 0);
+        let given: Vec<String> = given.map(|(n, times)| format!("{n}: {times}")).collect();
         format!(
-            "{} boards, {} plans, {} with a line; {} lists checked; {} lines played out against every reply; {} differ\n{first}",
-            self.boards, self.plans, self.lines, self.checks, self.played, self.differ
+            "{} boards, {} plans, {} with a line; {} lists checked; {} lines played out against every reply; refused {}; {} differ\n{first}",
+            self.boards,
+            self.plans,
+            self.lines,
+            self.checks,
+            self.played,
+            given.join(", "),
+            self.differ
         )
     }
 }

@@ -1,7 +1,7 @@
 //! Positions with attacks in them: games, and threes of one side's strewn among stones of the other's.
 
-use super::plain::Cells;
-use oracle::boards::{self, Dice};
+use super::plain::{self, Cells};
+use oracle::boards::{self, Dice, stone_count};
 
 /// A board of one of four sorts.
 pub fn board(dice: &mut Dice) -> Cells {
@@ -40,4 +40,17 @@ pub fn strewn(dice: &mut Dice, side: u8, threes: usize, others: usize) -> Cells 
         }
     }
     cells
+}
+
+/// A board of 20 to 60 stones and a side for which it is hard: no five stands, neither side can make
+/// one, and the side has attacks at ten points or more.
+pub fn hard(dice: &mut Dice) -> (Cells, u8) {
+    loop {
+        let side = 1 + dice.below(2) as u8;
+        let (threes, others) = (4 + dice.below(6), 8 + dice.below(25));
+        let cells = strewn(dice, side, threes, others);
+        if (20..=60).contains(&stone_count(&cells)) && plain::is_hard(&cells, side) {
+            return (cells, side);
+        }
+    }
 }

@@ -17,7 +17,7 @@ fn at(cells: &Cells, x: i32, y: i32) -> Option<u8> {
 
 /// The windows of five cells through a point that hold `count` stones of the side's and else empty
 /// cells; for Black none with a black stone beside it. Each as its last empty cell.
-fn windows(cells: &Cells, p: u8, side: u8, count: usize) -> Vec<u8> {
+pub fn windows(cells: &Cells, p: u8, side: u8, count: usize) -> Vec<u8> {
     let (x, y) = (i32::from(p) / 15, i32::from(p) % 15);
     let mut found = Vec::new();
     for (dx, dy) in STEPS {
@@ -82,25 +82,86 @@ fn quiet(cells: &Cells, side: u8) -> bool {
     !(0..225).any(|q| completes(cells, q, other(side)))
 }
 
-/// The attack at a point, where the defender can complete nothing.
-fn attack(cells: &Cells, p: u8, side: u8) -> Attack {
-    if cells[usize::from(p)] != 0 {
-        return Attack::No;
+/// What a search asks of a board. Tests put wrong ones in their places.
+#[derive(Clone, Copy)]
+pub struct Reading {
+    /// Whether a side may play at a point.
+    pub legal: fn(&Cells, u8, u8) -> bool,
+    /// The eyes of a side's Fours through a point that has its stone.
+    pub eyes: fn(&Cells, u8, u8) -> Vec<u8>,
+    /// Whether the other side can complete nothing.
+    pub quiet: fn(&Cells, u8) -> bool,
+}
+
+/// Document 02's own.
+pub const DOCUMENT: Reading = Reading { legal, eyes, quiet };
+
+impl Reading {
+    /// The attack at a point, where the defender can complete nothing.
+    fn attack(&self, cells: &Cells, p: u8, side: u8) -> Attack {
+        if cells[usize::from(p)] != 0 {
+            return Attack::No;
+        }
+        let five = completes(cells, p, side);
+        // A window with four stones after this one has three before it.
+        if !five && windows(cells, p, side, 3).is_empty() {
+            return Attack::No;
+        }
+        let next = with(cells, p, side);
+        let eyes = (self.eyes)(&next, p, side);
+        if (!five && eyes.is_empty()) || !(self.legal)(cells, p, side) {
+            return Attack::No;
+        }
+        match eyes[..] {
+            _ if five => Attack::Ends,
+            [eye] if (self.legal)(&next, eye, other(side)) => Attack::Forces(eye),
+            _ => Attack::Ends,
+        }
     }
-    let five = completes(cells, p, side);
-    // A window with four stones after this one has three before it.
-    if !five && windows(cells, p, side, 3).is_empty() {
-        return Attack::No;
+
+    /// The first acceptable list of at most `limit` attacks by comparing codes from the front.
+    pub fn plan(&self, cells: &Cells, side: u8, limit: u8) -> Option<Vec<u8>> {
+        if stands(cells) {
+            return None;
+        }
+        self.search(cells, side, limit)
     }
-    let next = with(cells, p, side);
-    let eyes = eyes(&next, p, side);
-    if (!five && eyes.is_empty()) || !legal(cells, p, side) {
-        return Attack::No;
+
+    fn search(&self, cells: &Cells, side: u8, left: u8) -> Option<Vec<u8>> {
+        if left == 0 || !(self.quiet)(cells, side) {
+            return None;
+        }
+        (0..225).find_map(|p| match self.attack(cells, p, side) {
+            Attack::No => None,
+            Attack::Ends => Some(vec![p]),
+            Attack::Forces(eye) => {
+                let next = with(&with(cells, p, side), eye, other(side));
+                let rest = self.search(&next, side, left - 1)?;
+                Some([&[p, eye], &rest[..]].concat())
+            }
+        })
     }
-    match eyes[..] {
-        _ if five => Attack::Ends,
-        [eye] if legal(&next, eye, other(side)) => Attack::Forces(eye),
-        _ => Attack::Ends,
+
+    /// Whether a list is acceptable.
+    pub fn accepts(&self, cells: &Cells, side: u8, list: &[u8]) -> bool {
+        !stands(cells) && self.reaches_end(cells, side, list)
+    }
+
+    fn reaches_end(&self, cells: &Cells, side: u8, list: &[u8]) -> bool {
+        let Some((&p, rest)) = list.split_first() else {
+            return false;
+        };
+        if !(self.quiet)(cells, side) {
+            return false;
+        }
+        match self.attack(cells, p, side) {
+            Attack::No => false,
+            Attack::Ends => rest.is_empty(),
+            Attack::Forces(eye) => {
+                let next = with(&with(cells, p, side), eye, other(side));
+                rest.first() == Some(&eye) && self.reaches_end(&next, side, &rest[1..])
+            }
+        }
     }
 }
 
@@ -116,51 +177,6 @@ pub fn is_hard(cells: &Cells, side: u8) -> bool {
         && quiet(cells, side)
         && quiet(cells, other(side))
         && (0..225).filter(attacks).count() >= 10
-}
-
-/// The first acceptable list of at most `limit` attacks by comparing codes from the front.
-pub fn plan(cells: &Cells, side: u8, limit: u8) -> Option<Vec<u8>> {
-    if stands(cells) {
-        return None;
-    }
-    search(cells, side, limit)
-}
-
-fn search(cells: &Cells, side: u8, left: u8) -> Option<Vec<u8>> {
-    if left == 0 || !quiet(cells, side) {
-        return None;
-    }
-    (0..225).find_map(|p| match attack(cells, p, side) {
-        Attack::No => None,
-        Attack::Ends => Some(vec![p]),
-        Attack::Forces(eye) => {
-            let next = with(&with(cells, p, side), eye, other(side));
-            let rest = search(&next, side, left - 1)?;
-            Some([&[p, eye], &rest[..]].concat())
-        }
-    })
-}
-
-/// Whether a list is acceptable.
-pub fn accepts(cells: &Cells, side: u8, list: &[u8]) -> bool {
-    !stands(cells) && reaches_end(cells, side, list)
-}
-
-fn reaches_end(cells: &Cells, side: u8, list: &[u8]) -> bool {
-    let Some((&p, rest)) = list.split_first() else {
-        return false;
-    };
-    if !quiet(cells, side) {
-        return false;
-    }
-    match attack(cells, p, side) {
-        Attack::No => false,
-        Attack::Ends => rest.is_empty(),
-        Attack::Forces(eye) => {
-            let next = with(&with(cells, p, side), eye, other(side));
-            rest.first() == Some(&eye) && reaches_end(&next, side, &rest[1..])
-        }
-    }
 }
 
 /// The side, to move, makes a five within `k` of its moves against every legal reply, if it follows
