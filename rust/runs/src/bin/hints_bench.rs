@@ -1,6 +1,7 @@
-//! How long a hint takes: `hints_bench [N [SEED]]`, N boards of 20 to 60 stones, each with the side for
-//! which it is hard, at limit 6: p50, p99 and the worst, and the boards searched, by how many attacks
-//! the line has; beside them a plain search on the original's board.
+//! How long a hint takes: `hints_bench [N [SEED]]`, N boards of 20 to 60 stones, every tenth without a
+//! line, each with the side for which it is hard, at limit 6: p50, p99 and the worst, and the boards searched, by how many attacks
+//! the line has; beside them a plain search on the original's board, which tries every empty point, and
+//! one that tries listed ones.
 //!
 //! `hints_bench N SEED once` asks ours once a board, for a counter of instructions to follow:
 //! `valgrind --tool=callgrind --toggle-collect='renju_win_plan' hints_bench N SEED once`, then the
@@ -12,8 +13,9 @@ use oracle::board::board::Board;
 use oracle::boards::Dice;
 use oracle::original::to_board;
 use renju::raw::renju_win_plan;
+use runs::hints::boards;
+use runs::hints::original::{self, Tried};
 use runs::hints::plain::{Cells, DOCUMENT};
-use runs::hints::{boards, original};
 use std::hint::black_box;
 use std::process::ExitCode;
 use std::time::{Duration, Instant};
@@ -29,7 +31,8 @@ struct Question {
     line: Vec<u8>,
     nodes: Option<u64>,
     ours: Duration,
-    theirs: Duration,
+    every: Duration,
+    listed: Duration,
 }
 
 fn main() -> ExitCode {
@@ -42,21 +45,33 @@ fn main() -> ExitCode {
     };
     let number = |place: usize, other: u64| numbers.get(place).copied().unwrap_or(other);
     let mut dice = Dice::new(number(1, 1));
-    let hard = (0..number(0, 2000)).map(|_| boards::hard(&mut dice));
+    let hard: Vec<(Cells, u8)> = (0..number(0, 2000)).map(|n| hard(&mut dice, n)).collect();
     if once {
-        let hard: Vec<(Cells, u8)> = hard.collect();
         hard.iter().for_each(|(cells, side)| {
             black_box(planned(cells, *side));
         });
         println!("{} plans", hard.len());
         return ExitCode::SUCCESS;
     }
-    let mut questions: Vec<Question> = hard.map(|(cells, side)| question(cells, side)).collect();
+    let questions = hard.into_iter();
+    let questions = questions.map(|(cells, side)| question(cells, side));
+    let mut questions: Vec<Question> = questions.collect();
     for _ in 0..ROUNDS {
         questions.iter_mut().for_each(time);
     }
     report(&questions);
     ExitCode::SUCCESS
+}
+
+/// A board, every tenth without a line.
+fn hard(dice: &mut Dice, number: u64) -> (Cells, u8) {
+    if !number.is_multiple_of(10) {
+        return boards::hard(dice);
+    }
+    boards::spoilt(dice, |cells, side| {
+        let (out, points) = planned(cells, side);
+        out[..points].first().copied()
+    })
 }
 
 /// Our plan at limit 6.
@@ -72,8 +87,12 @@ fn question(cells: Cells, side: u8) -> Question {
     let (out, points) = planned(&cells, side);
     let line = out[..points].to_vec();
     let board = to_board(&cells);
-    let (theirs, nodes) = original::plan(&board, side, 6);
+    let (theirs, nodes) = original::plan(&board, side, 6, Tried::Listed);
     let same = theirs == line;
+    assert_eq!(
+        original::plan(&board, side, 6, Tried::Every),
+        (theirs, nodes)
+    );
     if !same {
         let must = DOCUMENT.plan(&cells, side, 6).unwrap_or_default();
         assert_eq!(line, must, "side {side}, {cells:?}");
@@ -85,24 +104,31 @@ fn question(cells: Cells, side: u8) -> Question {
         line,
         nodes: same.then_some(nodes),
         ours: Duration::MAX,
-        theirs: Duration::MAX,
+        every: Duration::MAX,
+        listed: Duration::MAX,
     }
 }
 
-/// Both sides once more.
+/// Ours and the two on the original's board once more.
 fn time(question: &mut Question) {
-    let start = Instant::now();
-    black_box(planned(&question.cells, question.side));
-    question.ours = question.ours.min(start.elapsed());
-    let start = Instant::now();
-    black_box(original::plan(&question.board, question.side, 6));
-    question.theirs = question.theirs.min(start.elapsed());
+    let (board, side) = (&question.board, question.side);
+    let took = |ask: &dyn Fn()| {
+        let start = Instant::now();
+        ask();
+        start.elapsed()
+    };
+    let ours = took(&|| _ = black_box(planned(&question.cells, side)));
+    let every = took(&|| drop(black_box(original::plan(board, side, 6, Tried::Every))));
+    let listed = took(&|| drop(black_box(original::plan(board, side, 6, Tried::Listed))));
+    question.ours = question.ours.min(ours);
+    question.every = question.every.min(every);
+    question.listed = question.listed.min(listed);
 }
 
 /// A line for each number of attacks, one for all, and what was left out.
 fn report(questions: &[Question]) {
     println!(
-        "attacks | boards | nodes p50, p99, most | ours p50, p99, worst | sums: theirs, ours, ratio"
+        "attacks | boards | nodes p50, p99, most | ours p50, p99, worst | sums: ours; every point, ratio; listed, ratio"
     );
     for attacks in 0..=6 {
         let of = |question: &&Question| question.line.len().div_ceil(2) == attacks;
@@ -120,27 +146,27 @@ fn report(questions: &[Question]) {
 }
 
 fn show(name: &str, questions: &[&Question]) {
-    let beside = questions
-        .iter()
-        .filter_map(|question| Some((question, question.nodes?)));
-    let (mut theirs, mut ours, mut nodes) = (Duration::ZERO, Duration::ZERO, Vec::new());
-    for (question, searched) in beside {
-        theirs += question.theirs;
-        ours += question.ours;
-        nodes.push(searched);
-    }
     let mut times: Vec<Duration> = questions.iter().map(|question| question.ours).collect();
+    let same = questions.iter().filter(|question| question.nodes.is_some());
+    let mut nodes: Vec<u64> = same.clone().filter_map(|question| question.nodes).collect();
     if nodes.is_empty() {
         return;
     }
-    let ratio = theirs.as_secs_f64() / ours.as_secs_f64();
+    let sum = |of: fn(&Question) -> Duration| same.clone().map(|&question| of(question)).sum();
+    let ours: Duration = sum(|question| question.ours);
+    let beside = |theirs: Duration| {
+        let ratio = theirs.as_secs_f64() / ours.as_secs_f64();
+        format!("{theirs:.1?}, {ratio:.1}")
+    };
     println!(
-        "{name} | {} | {} | {} | {theirs:.1?}, {ours:.1?}, {ratio:.1}",
+        "{name} | {} | {} | {} | {ours:.1?}; {}; {}",
         questions.len(),
         places(&mut nodes).map(|n| n.to_string()).join(", "),
         places(&mut times)
             .map(|time| format!("{time:.1?}"))
             .join(", "),
+        beside(sum(|question| question.every)),
+        beside(sum(|question| question.listed)),
     );
 }
 

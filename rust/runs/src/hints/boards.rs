@@ -49,8 +49,26 @@ pub fn hard(dice: &mut Dice) -> (Cells, u8) {
         let side = 1 + dice.below(2) as u8;
         let (threes, others) = (4 + dice.below(6), 8 + dice.below(25));
         let cells = strewn(dice, side, threes, others);
-        if (20..=60).contains(&stone_count(&cells)) && plain::is_hard(&cells, side) {
+        if is_hard(&cells, side) {
             return (cells, side);
         }
     }
+}
+
+/// A hard board without a line: of one with lines, each one's first point is taken by the other side,
+/// until `plan` finds none, and what is left is still hard.
+pub fn spoilt(dice: &mut Dice, plan: impl Fn(&Cells, u8) -> Option<u8>) -> (Cells, u8) {
+    loop {
+        let (mut cells, side) = hard(dice);
+        while let Some(p) = plan(&cells, side) {
+            cells[usize::from(p)] = plain::other(side);
+        }
+        if is_hard(&cells, side) {
+            return (cells, side);
+        }
+    }
+}
+
+fn is_hard(cells: &Cells, side: u8) -> bool {
+    (20..=60).contains(&stone_count(cells)) && plain::is_hard(cells, side)
 }

@@ -1,6 +1,6 @@
-//! The same search on the original's board, as a plain program makes it there: the points to try are
-//! the eyes of the side's Swords and Fours, stones are put and removed, and the strict verdict is the
-//! original's own.
+//! The same search on the original's board, as a plain program makes it there: stones are put and
+//! removed, rows are read through a point, and the strict verdict is the original's own. Which points
+//! are tried is said by [`Tried`].
 //!
 //! Request 6 (an eye that completes a five) has changed that verdict, so a line can differ where a
 //! search meets such an eye.
@@ -11,19 +11,30 @@ use oracle::board::point::Point;
 use oracle::board::row::RowKind;
 use oracle::original;
 
+/// The points that a search tries on each board.
+#[derive(Debug, Clone, Copy, PartialEq, Eq)]
+pub enum Tried {
+    /// Every empty point: whether a Sword or a Four goes through it is asked point by point.
+    Every,
+    /// The eyes of the side's Swords and Fours, which are listed for the whole board.
+    Listed,
+}
+
 /// A search, and on how many boards it has looked for an attack.
-pub struct Search {
+struct Search {
     board: Board,
     side: Player,
+    tried: Tried,
     nodes: u64,
 }
 
 /// The first acceptable list of at most `limit` attacks, no points where there is none, and how many
 /// boards were searched.
-pub fn plan(board: &Board, side: u8, limit: u8) -> (Vec<u8>, u64) {
+pub fn plan(board: &Board, side: u8, limit: u8, tried: Tried) -> (Vec<u8>, u64) {
     let mut search = Search {
         board: board.clone(),
         side: original::player(side),
+        tried,
         nodes: 0,
     };
     let line = search.open().then(|| search.line(limit)).flatten();
@@ -48,9 +59,18 @@ impl Search {
 
     /// The points to try, by code.
     fn attacks(&self) -> Vec<Point> {
-        let rows = |kind| self.board.rows(self.side, kind);
-        let rows = rows(RowKind::Sword).chain(rows(RowKind::Four));
-        let mut points: Vec<Point> = rows.flat_map(|row| row.eyes()).collect();
+        let mut points: Vec<Point> = match self.tried {
+            Tried::Every => {
+                let has = |p, kind| self.has_row(p, self.side, kind);
+                let attack = |p: &Point| has(*p, RowKind::Four) || has(*p, RowKind::Sword);
+                self.board.empty_points().filter(attack).collect()
+            }
+            Tried::Listed => {
+                let rows = |kind| self.board.rows(self.side, kind);
+                let rows = rows(RowKind::Sword).chain(rows(RowKind::Four));
+                rows.flat_map(|row| row.eyes()).collect()
+            }
+        };
         points.sort_unstable_by_key(|&p| u8::from(p));
         points.dedup();
         points
@@ -58,7 +78,7 @@ impl Search {
 
     /// The first line that begins with an attack at a point.
     fn begun(&mut self, p: Point, left: u8) -> Option<Vec<Point>> {
-        if self.has_four(p, self.side) {
+        if self.has_row(p, self.side, RowKind::Four) {
             return Some(vec![p]);
         }
         if self.forbidden(p, self.side) {
@@ -82,7 +102,7 @@ impl Search {
                     return None;
                 }
                 self.board.put(defender, eye);
-                let quiet = !self.has_four(eye, defender);
+                let quiet = !self.has_row(eye, defender, RowKind::Four);
                 let rest = quiet.then(|| self.line(left - 1)).flatten();
                 self.board.remove(eye);
                 rest.map(|rest| [&[p, eye], &rest[..]].concat())
@@ -91,10 +111,9 @@ impl Search {
         }
     }
 
-    /// Whether a Four of the player's goes through a point.
-    fn has_four(&self, p: Point, player: Player) -> bool {
-        let fours = self.board.rows_on(p, player, RowKind::Four);
-        fours.into_iter().next().is_some()
+    /// Whether a row of the player's goes through a point.
+    fn has_row(&self, p: Point, player: Player, kind: RowKind) -> bool {
+        self.board.rows_on(p, player, kind).next().is_some()
     }
 
     fn forbidden(&self, p: Point, player: Player) -> bool {
