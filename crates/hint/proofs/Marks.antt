@@ -1,12 +1,13 @@
 -- The points to try: how they are marked, that those after an attack are among them, and that no line begins elsewhere. Assumes nothing.
 use mathlib.Core.Path.{_≡_, refl, ap, ap₂, sym, subst, subst₂, _∙_, fun-ext}
 use mathlib.Core.Logic.{_⊎_, inl, inr}
-use mathlib.Core.Bool.{Bool, true, false, not, _&&_, _||_, cond}
+use mathlib.Core.Bool.{and-true, Bool, true, false, not, _&&_, _||_, cond}
 use mathlib.Core.List.{List, [], _∷_}
 use Prim.Native.Nat.{ℕ, zero, suc, _+_, _-_, _/_, _%_, _≤_, _<_}
 use native.Mathlib.Nat.{le-of-suc-le-suc, eq-or-lt-of-le}
 use native.Mathlib.Omega.{arith}
 use native.Mathlib.Decide.{ℕ-discrete}
+use lib.Bits.{bitAnd}
 use lib.Dec.{T, eqb, leb, ltb, eqb→eq, leb→le, le→leb, lt→ltb}
 use lib.ListN.{length, getD, set, length-set}
 use lib.Seq.{getD-set-same, getD-set-other}
@@ -16,24 +17,24 @@ use Rattle.rules.specs.Tools.{anyBelow, allBelow}
 use Rattle.rules.specs.Bit.{bit, maskOf}
 use Rattle.rules.specs.Line.{Stones, inside, free, count, holds, scores, among, noStone, rowAt, emptyAt, spreadAt, eyesOf}
 use Rattle.rules.specs.Point.{lineNo, cellNo, lineCount, lineSize, pointAt, stored, storedAt, keyDir, keyNo, keySize, keyPoint}
-use Rattle.rules.specs.Grid.{isEmpty, put, stoneAt, rowOn, rowsThrough, startsOf, numbered, nextFrom}
+use Rattle.rules.specs.Grid.{valueOf, isEmpty, put, stoneAt, rowOn, rowsThrough, startsOf, numbered, nextFrom}
 use Rattle.rules.specs.Forbidden.{someRow}
 use Rattle.rules.specs.declared.Player.{Player}
 use Rattle.rules.specs.declared.RowKind.the-variants.{Sword, Four}
 use Rattle.rules.proofs.Logic.{T-true, true-T, along, decide, and-left, and-right, and-intro, or-left, or-right, or-cases}
 use Rattle.rules.proofs.Logic.{false-not, any-intro, all-elim}
-use Rattle.rules.proofs.Bits.{bit-mask}
+use Rattle.rules.proofs.Bits.{bit-and, bit-mask}
 use Rattle.rules.proofs.Address.{point-here, line-here, cell-here, size-le, stored-long, key-lt, key-dir, key-no, keyDir-lt}
 use Rattle.rules.proofs.Rows.{stone-here}
 use Rattle.rules.proofs.Changes.{stone-off}
 use Rattle.rules.proofs.More.{someRow-elim}
 use Rattle.rules.proofs.Numbered.{next-ge, next-none}
 use Rattle.masks.specs.Masks.{placed}
-use Rattle.grid.specs.Lines.{cellsOf, Sound, shows}
+use Rattle.grid.specs.Lines.{cellOf, cellsOf, Sound, shows}
 use Rattle.point.specs.declared.place.Place.{Place}
 use Rattle.point.specs.Places.{hasPlace, placeOf}
 use Rattle.point.proofs.Stored.{place-has, place-key, place-stored}
-use Rattle.grid.proofs.Lines.{shows-sound, line-at}
+use Rattle.grid.proofs.Lines.{cell-on, shows-sound, line-at}
 use Rattle.hint.specs.Hint.{afterBoth}
 use Rattle.hint.specs.Planner.{orElse, firstLine, lineFrom, planFrom}
 use Rattle.hint.specs.Seen.{Quiet, Forced, AttackIs, marked, Kept, MarkedIf, MarkedCells, Threat, MarkedLine, MarkedThrough}
@@ -213,7 +214,8 @@ module _ (r : Player) (cells : List ℕ) (d p : ℕ) (hd : d < 4) (hp : p < 225)
 
 -- all four lines
 pub through-four : (r : Player) (cells : List ℕ) (p : ℕ) (m : List ℕ) → MarkedLine r cells 0 (lineNo 0 p) m
-    → MarkedLine r cells 1 (lineNo 1 p) m → MarkedLine r cells 2 (lineNo 2 p) m → MarkedLine r cells 3 (lineNo 3 p) m → MarkedThrough r cells p m
+    → MarkedLine r cells 1 (lineNo 1 p) m
+    → MarkedLine r cells 2 (lineNo 2 p) m → MarkedLine r cells 3 (lineNo 3 p) m → MarkedThrough r cells p m
 through-four r cells p m v h a e zero lt = v
 through-four r cells p m v h a e (suc zero) lt = h
 through-four r cells p m v h a e (suc (suc zero)) lt = a
@@ -288,16 +290,17 @@ covers-both r cells p e f long m n all kept {board} eb through =
 -- ---- no line begins elsewhere
 
 module _ (r : Player) (cells : List ℕ) (long : length cells ≡ 225) (quiet : Quiet r cells) (m : List ℕ) (all : Covers r cells m)
-    (p : ℕ) (hp : p < 225) (none : marked m p ≡ false) where
+    (p : ℕ) (hp : p < 225) (none : T (isEmpty (getD cells p 0)) → marked m p ≡ false) where
   unmarked-no : AttackIs r cells p attack.No
   unfolding rowsThrough rowOn rowAt
   unmarked-no = go (decide (isEmpty (getD cells p 0)))
     where
       met : (d j n : ℕ) → d < 4 → T (isEmpty (getD cells p 0)) → T (eqb n 3 || eqb n 4) → T (among 5 j (cellNo d p))
-          → T (scores (isBlack r) (lineSize d (lineNo d p)) (stoneAt r cells d (lineNo d p)) (stoneAt (opponentOf r) cells d (lineNo d p)) n j)
+          → T (scores (isBlack r) (lineSize d (lineNo d p)) (stoneAt r cells d (lineNo d p))
+          (stoneAt (opponentOf r) cells d (lineNo d p)) n j)
           → ⊥
       met d j n hd bare is am t =
-          along none (all d (lineNo d p) hd (line-here d p hd hp) p j hp refl bare am (record { n = n; is = is; scored = t }))
+          along (none bare) (all d (lineNo d p) hd (line-here d p hd hp) p j hp refl bare am (record { n = n; is = is; scored = t }))
 
       four : T (isEmpty (getD cells p 0)) → (b : Bool) → someRow (rowsThrough r Four cells p) ≡ b → b ≡ false
       four bare false e = refl
@@ -335,7 +338,7 @@ first-skip f p (suc q) e h none =
     ]
 
 pub skip-to : (r : Player) (cells : List ℕ) → length cells ≡ 225 → Quiet r cells → (m : List ℕ) → Covers r cells m → (n : ℕ) {from q : ℕ}
-    → NextTry m from q → from ≤ 225 → firstLine from (lineFrom r (planFrom r n) cells) ≡ []
+    → NextTry m cells from q → from ≤ 225 → firstLine from (lineFrom r (planFrom r n) cells) ≡ []
     → firstLine q (lineFrom r (planFrom r n) cells) ≡ []
 skip-to r cells long quiet m all n {from} {q} next h e =
     first-skip (lineFrom r (planFrom r n) cells) from q e (next .ge h)
@@ -343,39 +346,57 @@ skip-to r cells long quiet m all n {from} {q} next h e =
 
 -- ---- the next one
 
-module _ (m : List ℕ) (p : ℕ) {k : ℕ} (ek : k ≡ nextFrom (numbered (startsOf (getD m (p / 15) 0 ∷ 0 ∷ 0 ∷ 0 ∷ []))) (p % 15)) where
-  -- none in its column before it
-  pub column-none : (q : ℕ) → p ≤ q → q / 15 ≡ p / 15 → q % 15 < k → marked m q ≡ false
-  unfolding marked numbered startsOf
-  column-none q l same h =
-      let none = next-none (numbered (startsOf (getD m (p / 15) 0 ∷ 0 ∷ 0 ∷ 0 ∷ []))) (p % 15) (q % 15) (omega arith)
+empty-bits : (b w : Bool) → T (isEmpty (valueOf b w)) → T (not b && not w)
+empty-bits true w t = absurd t
+empty-bits false true t = absurd t
+empty-bits false false t = tt
+
+module _ (m l : List ℕ) (p : ℕ) (hp : p < 225) {e k : ℕ}
+    (ee : e ≡ maskOf 16 (emptyAt 15 (bit (getD l (p / 15) 0)) (bit (getD l (72 + p / 15) 0))))
+    (ek : k ≡ nextFrom (numbered (startsOf (bitAnd (getD m (p / 15) 0) e ∷ 0 ∷ 0 ∷ 0 ∷ []))) (p % 15)) where
+  -- no empty one in its column before it
+  column-none : (q : ℕ) → q < 225 → p ≤ q → q / 15 ≡ p / 15 → q % 15 < k → T (isEmpty (getD (cellsOf l) q 0)) → marked m q ≡ false
+  unfolding marked numbered startsOf emptyAt noStone cellOf
+  column-none q hq a same h empty =
+      let none = next-none (numbered (startsOf (bitAnd (getD m (p / 15) 0) e ∷ 0 ∷ 0 ∷ 0 ∷ []))) (p % 15) (q % 15) (omega arith)
       (subst (λ (x : ℕ). q % 15 < x) ek h) in
       let lt : q % 15 < 15 = omega arith in
       let d : q % 15 / 16 ≡ 0 = omega arith in
       let j : q % 15 % 16 ≡ q % 15 = omega arith in
+      let bare = empty-bits (bit (getD l (q / 15) 0) (q % 15)) (bit (getD l (72 + q / 15) 0) (q % 15))
+      (subst (λ (v : ℕ). T (isEmpty v)) (sym (cell-on l q hq)) empty) in
+      let there : T (ltb (q % 15) 15 && (not (bit (getD l (p / 15) 0) (q % 15)) && not (bit (getD l (72 + p / 15) 0) (q % 15)))) =
+      and-intro (ltb (q % 15) 15) (not (bit (getD l (p / 15) 0) (q % 15)) && not (bit (getD l (72 + p / 15) 0) (q % 15)))
+      (lt→ltb (q % 15) 15 lt)
+      (subst (λ (x : ℕ). T (not (bit (getD l x 0) (q % 15)) && not (bit (getD l (72 + x) 0) (q % 15)))) same bare) in
       ap (λ (x : ℕ). bit (getD m x 0) (q % 15)) same
-      ∙ is-off (q % 15) lt (getD m (p / 15) 0) d j none
+      ∙ is-off (q % 15) lt (getD m (p / 15) 0)
+      (ap (λ (x : ℕ). bit x (q % 15)) ee
+      ∙ bit-mask 16 (emptyAt 15 (bit (getD l (p / 15) 0)) (bit (getD l (72 + p / 15) 0))) (q % 15) (omega arith) ∙ T-true there) d j none
     where
-      is-off : (y : ℕ) → y < 15 → (v : ℕ) → y / 16 ≡ 0 → y % 16 ≡ y
-          → (ltb (y % 16) 15 && bit (getD (v ∷ 0 ∷ 0 ∷ 0 ∷ []) (y / 16) 0) (y % 16)) ≡ false → bit v y ≡ false
-      is-off y lt v d j none =
+      is-off : (y : ℕ) → y < 15 → (v : ℕ) → bit e y ≡ true → y / 16 ≡ 0 → y % 16 ≡ y
+          → (ltb (y % 16) 15 && bit (getD (bitAnd v e ∷ 0 ∷ 0 ∷ 0 ∷ []) (y / 16) 0) (y % 16)) ≡ false → bit v y ≡ false
+      is-off y lt v on d j none =
           let yes : ltb y 15 ≡ true = T-true (lt→ltb y 15 lt) in
-          let same : (ltb (y % 16) 15 && bit (getD (v ∷ 0 ∷ 0 ∷ 0 ∷ []) (y / 16) 0) (y % 16)) ≡ bit v y = rw (d, j, yes) in
-          sym same ∙ none
+          let same : (ltb (y % 16) 15 && bit (getD (bitAnd v e ∷ 0 ∷ 0 ∷ 0 ∷ []) (y / 16) 0) (y % 16)) ≡ bit (bitAnd v e) y =
+          rw (d, j, yes) in
+          let and : bit (bitAnd v e) y ≡ (bit v y && bit e y) = bit-and v e y in
+          let whole : (bit v y && bit e y) ≡ bit v y = ap (λ (b : Bool). bit v y && b) on ∙ and-true (bit v y) in
+          sym whole ∙ sym and ∙ sym same ∙ none
 
   -- so none up to it, or to the next column
-  pub none-to : (from r : ℕ) → ((q : ℕ) → from ≤ q → q < p → marked m q ≡ false) → r ≤ p - p % 15 + 15 → r ≤ p - p % 15 + k
-      → (q : ℕ) → from ≤ q → q < r → marked m q ≡ false
-  none-to from r none l h q a b = go (decide (leb p q))
+  pub none-to : (from r : ℕ) → ((q : ℕ) → from ≤ q → q < p → T (isEmpty (getD (cellsOf l) q 0)) → marked m q ≡ false)
+      → r ≤ p - p % 15 + 15 → r ≤ p - p % 15 + k → (q : ℕ) → from ≤ q → q < r → T (isEmpty (getD (cellsOf l) q 0)) → marked m q ≡ false
+  none-to from r none a h q b c = go (decide (leb p q))
     where
-      go : (leb p q ≡ true) ⊎ (leb p q ≡ false) → marked m q ≡ false
+      go : (leb p q ≡ true) ⊎ (leb p q ≡ false) → T (isEmpty (getD (cellsOf l) q 0)) → marked m q ≡ false
       go (inl e) =
           let le : p ≤ q = leb-true p q e in
           let same : q / 15 ≡ p / 15 = omega arith in
-          column-none q le same (omega arith)
-      go (inr e) = none q a (omega (arith, leb-false p q e))
+          column-none q (omega arith) le same (omega arith)
+      go (inr e) = none q b (omega (arith, leb-false p q e))
 
   pub not-back : p ≤ p - p % 15 + k
   not-back =
-      let g = next-ge (numbered (startsOf (getD m (p / 15) 0 ∷ 0 ∷ 0 ∷ 0 ∷ []))) (p % 15) (omega arith) in
+      let g = next-ge (numbered (startsOf (bitAnd (getD m (p / 15) 0) e ∷ 0 ∷ 0 ∷ 0 ∷ []))) (p % 15) (omega arith) in
       omega (arith, ek)

@@ -123,8 +123,8 @@ unfoldable pub hotCell : ℕ → Stones → Stones → ℕ → Bool
 hotCell size own other i =
     eyesOf size own other (bit (maskOf 16 (λ j. holds size own other 3 j || holds size own other 4 j))) (bit 31) i
 
--- the first marked point from a code on, or 225
-pub record NextTry (m : List ℕ) (from r : ℕ) : Type 0 where
+-- the first marked point from a code on that is empty, or 225
+pub record NextTry (m cells : List ℕ) (from r : ℕ) : Type 0 where
   pub le : r ≤ 225
   pub ge : from ≤ 225 → from ≤ r
-  pub none : (p : ℕ) → from ≤ p → p < r → marked m p ≡ false
+  pub none : (p : ℕ) → from ≤ p → p < r → T (isEmpty (getD cells p 0)) → marked m p ≡ false

@@ -41,6 +41,7 @@ pub(crate) fn eyes_by(
 {
     let mut sword = next_start(swords, 0);
     let first = eye_at(lines, table, code, side, sword);
+    sword = next_start(swords, sword + 1);
     while sword < 64 {
         if eye_at(lines, table, code, side, sword) != first {
             return Eyes {

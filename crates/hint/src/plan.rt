@@ -35,13 +35,13 @@ pub(crate) fn plan_on(
     if left == 0 {
         return 0;
     }
-    let mut p = next_try(tries, 0);
+    let mut p = next_try(tries, lines, 0);
     while p < 225 {
         let n = attack_on(lines, table, side, left, tries, out, at, p);
         if n != 0 {
             return n;
         }
-        p = next_try(tries, p + 1);
+        p = next_try(tries, lines, p + 1);
     }
     0
 }

@@ -1,8 +1,10 @@
 // The points that the planner tries: every empty point that has a Sword or a Four of the attacker's through it is among them. Bit y of mask
-// x is the point (x, y). They are read off all lines once, at the start; after an attack only the lines through its stone can have new ones.
+// x is the point (x, y). They are read off all lines once, at the start; after an attack only the lines through its stone can have new
+// ones.
 use grid::mask_on;
 use masks::bit_at;
 use masks::count_mask;
+use masks::empty_cells;
 use masks::eyes_of;
 use masks::set_bit;
 use near::next_start;
@@ -56,14 +58,15 @@ pub(crate) fn tries_after(
     next
 }
 
-// The first of them from a code on; 225 where there is none.
-pub(crate) fn next_try(tries: &[u16; 15], from: u8) -> u8
-    ensures { λ r. ⌜ NextTry (now (tries .entry)) from r ⌝ }
+// The first of them from a code on that is empty; 225 where there is none. A column is a vertical line.
+pub(crate) fn next_try(tries: &[u16; 15], lines: &[u16; 144], from: u8) -> u8
+    ensures { λ r. ⌜ NextTry (now (tries .entry)) (cellsOf (now (lines .entry))) from r ⌝ }
 {
     let mut p = from;
     while p < 225 {
         let y = p % 15;
-        let column = tries[(p / 15) as usize];
+        let x = (p / 15) as usize;
+        let column = tries[x] & empty_cells(lines[x], lines[72 + x], 15);
         let next = next_start([column, 0, 0, 0], y);
         if next < 15 {
             return p - y + next;

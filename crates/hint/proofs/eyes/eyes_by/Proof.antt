@@ -31,15 +31,22 @@ eye-at-requires c κs =
 
 loop-holds : tie.Need-loop-holds Inv-loop μ-loop
 loop-holds c =
-    let at-next-start = c .before in
+    let at-eye-at = c .before in
+    let at-next-start = at-eye-at .before in
     let s = at-next-start .before in
-    agree-first (s .args .side) (cellsOf (s .args .lines .now)) (s .args .code) (length-cellsOf (s .args .lines .now)) (s .pre .1)
-    (zero-empty (s .pre .2)) (s .pre .4) _ (at-next-start .next-start .ensures)
+    let C = cellsOf (s .args .lines .now) in
+    let long = length-cellsOf (s .args .lines .now) in
+    let f = first-sword (s .args .side) C (s .args .code) long (s .pre .1) (zero-empty (s .pre .2)) (s .pre .4) (s .pre .5)
+    (at-next-start .next-start .ensures) in
+    agree-next (s .args .side) C (s .args .code) long (s .pre .1) (zero-empty (s .pre .2)) (s .pre .4) _ (at-next-start .next-start .result)
+    (agree-first (s .args .side) C (s .args .code) long (s .pre .1) (zero-empty (s .pre .2)) (s .pre .4) _
+    (at-next-start .next-start .ensures))
+    (f .0) (sym (at-eye-at .eye-at .ensures)) (c .next-start2 .ensures)
 
 eye-at-requires-2 : tie.Need-eye-at-requires-2 Inv-loop μ-loop
 eye-at-requires-2 c κs =
     let at-loop = c .before in
-    let s = at-loop .before .before .before in
+    let s = at-loop .before .before .before .before in
     (s .pre .0, s .pre .1, s .pre .2, s .pre .3, c .loop-test .taken, at-loop .loop .inv .here (c .loop-test .taken))
 
 returns : tie.Need-returns Inv-loop μ-loop
@@ -47,7 +54,7 @@ returns c =
     let at-eye-at2 = c .before in
     let at-loop-test = at-eye-at2 .before in
     let at-loop = at-loop-test .before in
-    let at-eye-at = at-loop .before in
+    let at-eye-at = at-loop .before .before in
     let at-next-start = at-eye-at .before in
     let s = at-next-start .before in
     let f = first-sword (s .args .side) (cellsOf (s .args .lines .now)) (s .args .code) (length-cellsOf (s .args .lines .now)) (s .pre .1)
@@ -59,17 +66,28 @@ returns c =
 
 add-next-start : tie.Need-add-next-start Inv-loop μ-loop
 add-next-start c =
-    omega arith
+    let s = c .before .before in
+    let f = first-sword (s .args .side) (cellsOf (s .args .lines .now)) (s .args .code) (length-cellsOf (s .args .lines .now)) (s .pre .1)
+    (zero-empty (s .pre .2)) (s .pre .4) (s .pre .5) (c .before .next-start .ensures) in
+    omega (arith, f .0)
 
 next-start-requires-2 : tie.Need-next-start-requires-2 Inv-loop μ-loop
 next-start-requires-2 c κs =
+    search needs
+
+add-next-start-2 : tie.Need-add-next-start-2 Inv-loop μ-loop
+add-next-start-2 c =
+    omega arith
+
+next-start-requires-3 : tie.Need-next-start-requires-3 Inv-loop μ-loop
+next-start-requires-3 c κs =
     search needs
 
 loop-less : tie.Need-loop-less Inv-loop μ-loop
 loop-less c =
     let at-loop-test = c .before .before .before in
     let at-loop = at-loop-test .before in
-    walk-less _ (at-loop .loop .sword) (at-loop-test .loop-test .taken) (c .next-start2 .ensures)
+    walk-less _ (at-loop .loop .sword) (at-loop-test .loop-test .taken) (c .next-start3 .ensures)
 
 loop-again : tie.Need-loop-again Inv-loop μ-loop
 loop-again c =
@@ -77,16 +95,16 @@ loop-again c =
     let at-eye-at2 = at-if1 .before in
     let at-loop-test = at-eye-at2 .before in
     let at-loop = at-loop-test .before in
-    let s = at-loop .before .before .before in
+    let s = at-loop .before .before .before .before in
     agree-next (s .args .side) (cellsOf (s .args .lines .now)) (s .args .code) (length-cellsOf (s .args .lines .now)) (s .pre .1)
     (zero-empty (s .pre .2)) (s .pre .4) _ (at-loop .loop .sword) (at-loop .loop .inv) (at-loop-test .loop-test .taken)
     (sym (at-eye-at2 .eye-at2 .ensures) ∙ at-if1 .if1 .left)
-    (c .next-start2 .ensures)
+    (c .next-start3 .ensures)
 
 returns-2 : tie.Need-returns-2 Inv-loop μ-loop
 returns-2 c =
     let at-loop = c .before in
-    let at-eye-at = at-loop .before in
+    let at-eye-at = at-loop .before .before in
     let at-next-start = at-eye-at .before in
     let s = at-next-start .before in
     let f = first-sword (s .args .side) (cellsOf (s .args .lines .now)) (s .args .code) (length-cellsOf (s .args .lines .now)) (s .pre .1)
@@ -103,11 +121,13 @@ eyes-by-spec =
     μ-loop
     next-start-requires
     eye-at-requires
+    add-next-start
+    next-start-requires-2
     loop-holds
     eye-at-requires-2
     returns
-    add-next-start
-    next-start-requires-2
+    add-next-start-2
+    next-start-requires-3
     loop-less
     loop-again
     returns-2)

@@ -11,7 +11,7 @@ use Rattle.grid.specs.Lines.{cellsOf, Sound}
 use Rattle.grid.proofs.Lines.{length-cellsOf}
 use Rattle.hint.specs.Hint.{afterBoth}
 use Rattle.hint.specs.Planner.{firstLine, lineFrom, planFrom}
-use Rattle.hint.specs.Seen.{Quiet, Forced, Covers}
+use Rattle.hint.specs.Seen.{Quiet, Forced, Covers, NextTry}
 use Rattle.hint.proofs.Checked.{at-forced, is-legal, both-sound, both-cells, both-quiet, both-back}
 use Rattle.hint.proofs.Searched.{gives, nil-of, line-no, line-end, line-forced, line-last, nothing-behind, two-longer, two-before}
 use Rattle.hint.proofs.Marks.{covers-both, skip-to}
@@ -391,7 +391,7 @@ plan-on-loop-holds :
     plan-on-Inv-loop
     plan-on-μ-loop
 plan-on-loop-holds t c =
-    let at-if1 = c .before in
+    let at-if1 = c .before .before in
     let s = at-if1 .before in
     let a = s .args in
     let n = c .next-try .ensures in (
@@ -407,7 +407,7 @@ plan-on-attack-on-requires : (t : ℕ)
 plan-on-attack-on-requires t c κs =
     let at-loop-test = c .before .before in
     let at-loop = at-loop-test .before in
-    let at-if1 = at-loop .before .before in
+    let at-if1 = at-loop .before .before .before in
     let s = at-if1 .before in
     let a = s .args in
     let i = at-loop .loop .inv in
@@ -437,7 +437,7 @@ plan-on-returns-2 t c =
     let at-attack-on = c .before in
     let at-loop-test = at-attack-on .before .before .before in
     let at-loop = at-loop-test .before in
-    let at-if1 = at-loop .before .before in
+    let at-if1 = at-loop .before .before .before in
     let s = at-if1 .before in
     let a = s .args in
     let C = cellsOf (a .lines .now) in
@@ -483,7 +483,7 @@ plan-on-loop-less :
     plan-on-Inv-loop
     plan-on-μ-loop
 plan-on-loop-less t c =
-    let at-loop-test = c .before .before .before .before .before in
+    let at-loop-test = c .before .before .before .before .before .before in
     let n = c .next-try2 .ensures in
     let h = at-loop-test .loop-test .taken in
     let g = n .ge (omega arith) in
@@ -498,23 +498,24 @@ plan-on-loop-again :
     plan-on-Inv-loop
     plan-on-μ-loop
 plan-on-loop-again t c =
-    let at-if2 = c .before in
+    let at-if2 = c .before .before in
     let at-attack-on = at-if2 .before in
     let at-loop-test = at-attack-on .before .before .before in
     let at-loop = at-loop-test .before in
-    let s = at-loop .before .before .before in
+    let s = at-loop .before .before .before .before in
     let a = s .args in
     let C = cellsOf (a .lines .now) in
     let i = at-loop .loop .inv in
     let p = at-loop .loop .p in
     let next = planFrom (a .side) (a .left - 1) in
-    let n = c .next-try2 .ensures in
     let r = at-attack-on .attack-on .ensures in
     let r0 = r .0 ∙ ap (λ (l : List ℕ). length (lineFrom (a .side) next (cellsOf l) p)) (i .0) in
     let r1 = r .1 ∙ ap (λ (u : List ℕ). sets u (a .at) (lineFrom (a .side) next (cellsOf (at-loop .loop .lines)) p)) (i .1)
     ∙ ap (λ (l : List ℕ). sets (a .out .now) (a .at) (lineFrom (a .side) next (cellsOf l) p)) (i .0) in
+    let same = r .2 ∙ i .0 in
+    let n = subst (λ (l : List ℕ). NextTry (a .tries .now) (cellsOf l) (p + 1) (c .next-try2 .result)) same (c .next-try2 .ensures) in
     let z = sym (at-if2 .if2 .left) ∙ r0 in (
-      r .2 ∙ i .0,
+      same,
       r1 ∙ ap (sets (a .out .now) (a .at)) (nil-of (lineFrom (a .side) next C p) z),
       n .le,
       skip-to (a .side) C (length-cellsOf (a .lines .now)) (s .pre .1 .2) (a .tries .now) (s .pre .1 .4) (a .left - 1) n
@@ -531,7 +532,7 @@ plan-on-returns-3 :
     plan-on-μ-loop
 plan-on-returns-3 t c =
     let at-loop = c .before in
-    let at-if1 = at-loop .before .before in
+    let at-if1 = at-loop .before .before .before in
     let s = at-if1 .before in
     let a = s .args in
     let C = cellsOf (a .lines .now) in

@@ -3,6 +3,10 @@ use borrow.Author.Needs.{needs}
 use mathlib.Core.Path.{_≡_}
 use Prim.Native.Nat.{ℕ, _+_, _-_, _%_, _≤_, _<_}
 use native.Mathlib.Omega.{arith}
+use lib.Dec.{T}
+use lib.ListN.{getD}
+use Rattle.rules.specs.Grid.{isEmpty}
+use Rattle.grid.specs.Lines.{cellsOf}
 use Rattle.hint.specs.Seen.{marked}
 use mathlib.Core.Bool.{false}
 use Rattle.hint.proofs.Marks.{none-to, not-back}
@@ -10,19 +14,19 @@ use Rattle.hint.proofs.tries.next_try.Statement.{statement}
 use Rattle.hint.proofs.tries.next_try.Tie as tie
 
 abbrev Inv-loop : tie.InvT-loop
-Inv-loop tries from p₀ p =
-    (from ≤ p) × ((q : ℕ) → from ≤ q → q < p → marked tries q ≡ false)
+Inv-loop tries lines from p₀ p =
+    (from ≤ p) × ((q : ℕ) → from ≤ q → q < p → T (isEmpty (getD (cellsOf lines) q 0)) → marked tries q ≡ false)
 
 abbrev μ-loop : tie.MeasureT-loop
-μ-loop tries from p₀ p =
+μ-loop tries lines from p₀ p =
     255 - p
 
 loop-holds : tie.Need-loop-holds Inv-loop μ-loop
 loop-holds c =
     (omega arith, λ q a b. absurd (omega arith))
 
-cast-column : tie.Need-cast-column Inv-loop μ-loop
-cast-column c =
+cast-x : tie.Need-cast-x Inv-loop μ-loop
+cast-x c =
     search needs
 
 mul-column : tie.Need-mul-column Inv-loop μ-loop
@@ -32,6 +36,30 @@ mul-column c =
 element-copy-out-column : tie.Need-element-copy-out-column Inv-loop μ-loop
 element-copy-out-column c =
     omega arith
+
+mul-empty-cells : tie.Need-mul-empty-cells Inv-loop μ-loop
+mul-empty-cells c =
+    omega arith
+
+element-copy-out-empty-cells : tie.Need-element-copy-out-empty-cells Inv-loop μ-loop
+element-copy-out-empty-cells c =
+    omega arith
+
+add-empty-cells : tie.Need-add-empty-cells Inv-loop μ-loop
+add-empty-cells c =
+    omega arith
+
+mul-empty-cells-2 : tie.Need-mul-empty-cells-2 Inv-loop μ-loop
+mul-empty-cells-2 c =
+    omega arith
+
+element-copy-out-empty-cells-2 : tie.Need-element-copy-out-empty-cells-2 Inv-loop μ-loop
+element-copy-out-empty-cells-2 c =
+    omega arith
+
+empty-cells-requires : tie.Need-empty-cells-requires Inv-loop μ-loop
+empty-cells-requires c κs =
+    search needs
 
 next-start-requires : tie.Need-next-start-requires Inv-loop μ-loop
 next-start-requires c κs =
@@ -48,17 +76,22 @@ add-result c =
 returns : tie.Need-returns Inv-loop μ-loop
 returns c =
     let at-next = c .before in
-    let at-test = at-next .before .before in
+    let at-empty = at-next .before in
+    let at-test = at-empty .before .before .before .before in
     let at-loop = at-test .before in
     let s = at-loop .before in
     let i = at-loop .loop .inv in
     let p = at-loop .loop .p in
+    let m = s .args .tries .now in
+    let l = s .args .lines .now in
+    let h = at-test .loop-test .taken in
+    let v = at-empty .empty-cells .ensures in
     let e = at-next .next-start .ensures in
-    let g = not-back (s .args .tries .now) p e in
+    let g = not-back m l p h v e in
     record {
       le = omega (arith, c .if1 .taken);
-      ge = λ h. omega (arith, i .0, g);
-      none = none-to (s .args .tries .now) p e (s .args .from) (p - p % 15 + at-next .next-start .result) (i .1) (omega arith) (omega arith);
+      ge = λ _. omega (arith, i .0, g);
+      none = none-to m l p h v e (s .args .from) (p - p % 15 + at-next .next-start .result) (i .1) (omega arith) (omega arith);
     }
 
 sub-p : tie.Need-sub-p Inv-loop μ-loop
@@ -76,13 +109,15 @@ loop-less c =
 loop-again : tie.Need-loop-again Inv-loop μ-loop
 loop-again c =
     let at-next = c .before in
-    let at-test = at-next .before .before in
+    let at-empty = at-next .before in
+    let at-test = at-empty .before .before .before .before in
     let at-loop = at-test .before in
     let s = at-loop .before in
     let p = at-loop .loop .p in
     let i = at-loop .loop .inv in (
       omega (arith, i .0),
-      none-to (s .args .tries .now) p (at-next .next-start .ensures) (s .args .from) (p - p % 15 + 15) (i .1) (omega arith)
+      none-to (s .args .tries .now) (s .args .lines .now) p (at-test .loop-test .taken) (at-empty .empty-cells .ensures)
+          (at-next .next-start .ensures) (s .args .from) (p - p % 15 + 15) (i .1) (omega arith)
           (omega (arith, c .if1 .left)),
     )
 
@@ -100,9 +135,15 @@ next-try-spec =
     Inv-loop
     μ-loop
     loop-holds
-    cast-column
+    cast-x
     mul-column
     element-copy-out-column
+    mul-empty-cells
+    element-copy-out-empty-cells
+    add-empty-cells
+    mul-empty-cells-2
+    element-copy-out-empty-cells-2
+    empty-cells-requires
     next-start-requires
     sub-result
     add-result
