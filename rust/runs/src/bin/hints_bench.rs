@@ -4,8 +4,8 @@
 //! one that tries listed ones.
 //!
 //! `hints_bench N SEED once` asks ours once a board, for a counter of instructions to follow:
-//! `valgrind --tool=callgrind --toggle-collect='renju_win_plan' hints_bench N SEED once`, then the
-//! total over the number of plans that it prints.
+//! `valgrind --tool=callgrind --toggle-collect='hints_bench::asked' hints_bench N SEED once`, then
+//! the total over the number of plans that it prints.
 //!
 //! Exit status 2 for an argument that is not understood.
 
@@ -20,7 +20,8 @@ use std::hint::black_box;
 use std::process::ExitCode;
 use std::time::{Duration, Instant};
 
-/// Rounds over the set, of which the fastest is taken, question by question.
+/// Rounds over the set, of which the fastest is taken, question by question; the search that tries
+/// every point has one.
 const ROUNDS: usize = 5;
 
 /// A question, its line and how many boards were searched; none where the original's line differs.
@@ -47,20 +48,25 @@ fn main() -> ExitCode {
     let mut dice = Dice::new(number(1, 1));
     let hard: Vec<(Cells, u8)> = (0..number(0, 2000)).map(|n| hard(&mut dice, n)).collect();
     if once {
-        hard.iter().for_each(|(cells, side)| {
-            black_box(planned(cells, *side));
-        });
-        println!("{} plans", hard.len());
+        println!("{} plans", asked(&hard));
         return ExitCode::SUCCESS;
     }
     let questions = hard.into_iter();
     let questions = questions.map(|(cells, side)| question(cells, side));
     let mut questions: Vec<Question> = questions.collect();
+    questions.iter_mut().for_each(time_every);
     for _ in 0..ROUNDS {
         questions.iter_mut().for_each(time);
     }
     report(&questions);
     ExitCode::SUCCESS
+}
+
+/// How many plans there are, each asked once.
+#[inline(never)]
+fn asked(hard: &[(Cells, u8)]) -> usize {
+    let plans = hard.iter().map(|(cells, side)| planned(cells, *side));
+    plans.map(black_box).count()
 }
 
 /// A board, every tenth without a line.
@@ -104,24 +110,29 @@ fn question(cells: Cells, side: u8) -> Question {
         line,
         nodes: same.then_some(nodes),
         ours: Duration::MAX,
-        every: Duration::MAX,
+        every: Duration::ZERO,
         listed: Duration::MAX,
     }
 }
 
-/// Ours and the two on the original's board once more.
+fn took<T>(ask: impl Fn() -> T) -> Duration {
+    let start = Instant::now();
+    black_box(ask());
+    start.elapsed()
+}
+
+/// The search that tries every point, once: it is slow.
+fn time_every(question: &mut Question) {
+    let (board, side) = (&question.board, question.side);
+    question.every = took(|| original::plan(board, side, 6, Tried::Every));
+}
+
+/// Ours and the one that tries listed points, once more.
 fn time(question: &mut Question) {
     let (board, side) = (&question.board, question.side);
-    let took = |ask: &dyn Fn()| {
-        let start = Instant::now();
-        ask();
-        start.elapsed()
-    };
-    let ours = took(&|| _ = black_box(planned(&question.cells, side)));
-    let every = took(&|| drop(black_box(original::plan(board, side, 6, Tried::Every))));
-    let listed = took(&|| drop(black_box(original::plan(board, side, 6, Tried::Listed))));
+    let ours = took(|| planned(&question.cells, side));
+    let listed = took(|| original::plan(board, side, 6, Tried::Listed));
     question.ours = question.ours.min(ours);
-    question.every = question.every.min(every);
     question.listed = question.listed.min(listed);
 }
 
