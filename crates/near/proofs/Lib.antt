@@ -10,3 +10,5 @@ mod Next
 mod More
 -- the first gap of a mask's stones from a cell on, by the lowest set bit
 mod Gap
+-- starts put in, taken out and left out, by the word of their numbers
+mod Chosen

@@ -11,4 +11,6 @@ pub use rows::Rows;
 pub use rows::rows_near;
 pub use starts::more_than_one;
 pub use starts::next_start;
+pub use starts::other_starts;
+pub use starts::set_start;
 pub use starts::some_row;

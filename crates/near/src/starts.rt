@@ -1,9 +1,12 @@
 // What section 5 asks of four start masks, and the walk from start to start. The number of a start is 16 times its direction, and its cell.
 use super::words::joined;
+use super::words::parted;
 ghost use mathlib.Core.Path.{_≡_};
-ghost use Prim.Native.Nat.{_<_};
+ghost use mathlib.Core.Bool.{not, _&&_, cond};
+ghost use Prim.Native.Nat.{_+_, _*_, _<_};
+ghost use lib.Dec.{eqb};
 ghost use Rattle.rules.specs.Bit.{maskOf};
-ghost use Rattle.rules.specs.Grid.{startsOf, numbered, nextFrom};
+ghost use Rattle.rules.specs.Grid.{startMasks, startsOf, numbered, nextFrom};
 ghost use Rattle.rules.specs.Forbidden.{someRow, moreThanOne};
 
 // "some line has [a row] through p"
@@ -35,6 +38,27 @@ pub fn next_start(starts: [u16; 4], from: u8) -> u8
         return 64;
     }
     from + (u64::trailing_zeros(rest) as u8)
+}
+
+// The starts with that of a number put in or taken out. A number over 63 is no start's.
+pub fn set_start(starts: [u16; 4], number: u8, on: bool) -> [u16; 4]
+    ensures { λ r. ⌜ r ≡ startMasks (λ d j. cond (eqb (16 * d + j) number) on (startsOf starts d j)) ⌝ }
+{
+    let word = word_of(starts);
+    if 64 <= number {
+        return parted(word);
+    }
+    if on {
+        return parted(word | 1u64 << number);
+    }
+    parted(word & !(1u64 << number))
+}
+
+// The starts that the second masks have not.
+pub fn other_starts(starts: [u16; 4], taken: [u16; 4]) -> [u16; 4]
+    ensures { λ r. ⌜ r ≡ startMasks (λ d j. startsOf starts d j && not (startsOf taken d j)) ⌝ }
+{
+    parted(word_of(starts) & !word_of(taken))
 }
 
 // All four lines' starts by their numbers.
