@@ -4,6 +4,8 @@
 pub mod RowsSeen
 -- the eye of a Three is found on sound lines, and each number on the way fits a byte; the rows through it tell whether the Three is real
 pub mod EyeFound
+-- what is known of the Threes through a stone: by what was found of one, by a look at its eye, and in the end
+pub mod Told
 -- the strict question on sound lines: the cell at the point; the trial stone put and taken off
 pub mod Asked
 -- where the sweep has no mark the verdict is none: whole columns may be passed over

@@ -8,11 +8,11 @@ use lib.ListN.{getD}
 use Rattle.rules.specs.Tools.{anyBelow}
 use Rattle.rules.specs.Bit.{bit, maskOf}
 use Rattle.rules.specs.Point.{lineNo}
-use Rattle.rules.specs.Grid.{stoneAt, startMasks, startsOf, rowsThrough}
-use Rattle.rules.specs.Forbidden.{someRow, moreThanOne, withBlack, realDouble, firstKind, strictOf}
+use Rattle.rules.specs.Grid.{stoneAt, startMasks, startsOf, numbered, rowsThrough}
+use Rattle.rules.specs.Forbidden.{someRow, moreThanOne, withBlack, realThrees, realDouble, firstKind, strictOf}
 use Rattle.rules.specs.declared.Player.{Player}
 use Rattle.rules.specs.declared.Player.the-variants.{Black}
-use Rattle.rules.specs.declared.RowKind.the-variants.{Two}
+use Rattle.rules.specs.declared.RowKind.the-variants.{Two, Three}
 use Rattle.rules.specs.declared.Verdict.{Verdict}
 use Rattle.rules.specs.declared.Verdict.the-variants.{None}
 use Rattle.point.specs.Places.{hasPlace}
@@ -35,6 +35,13 @@ pub record Triable (l : List ℕ) (p : ℕ) (twos : List ℕ) : Type 0 where
   pub sound : Sound l
   pub free : getD (cellsOf l) p 0 ≡ 0
   pub starts : twos ≡ startMasks (rowsThrough Black Two (cellsOf l) p)
+
+-- what is known of the real Threes through p: those of `sure` are real, and all that are real are among `left`, which are Threes. Starts
+-- are named by their numbers.
+pub record KnownOf (cells : List ℕ) (p : ℕ) (sure left : List ℕ) : Type 0 where
+  pub real : (k : ℕ) → k < 64 → T (numbered (startsOf sure) k) → T (numbered (realThrees strictOf cells p) k)
+  pub all : (k : ℕ) → k < 64 → T (numbered (realThrees strictOf cells p) k) → T (numbered (startsOf left) k)
+  pub threes : (k : ℕ) → k < 64 → T (numbered (startsOf left) k) → T (numbered (rowsThrough Black Three cells p) k)
 
 -- m has the player's masks of the stored lines through p
 unfoldable pub MasksOf : Player → List ℕ → ℕ → List ℕ → Type 0

@@ -2,26 +2,31 @@
 // asked on the same lines, and the stone taken off again. The board is not copied. Each turn has one empty point fewer. The table of
 // addresses is lent too: it is laid out once, by whoever asks first.
 use super::eye::eye_on;
+use super::known::Known;
+use super::known::is_told;
+use super::known::looked_at;
+use super::known::next_unless;
+use super::known::settled;
 use super::rows::rows_on;
 use grid::add_on;
 use grid::cell_on;
 use grid::lift_on;
 use near::Rows;
 use near::more_than_one;
-use near::next_start;
+use near::other_starts;
 use near::some_row;
 use rules::Player;
 use rules::Verdict;
 ghost use mathlib.Core.Path.{_≡_};
 ghost use Prim.Native.Nat.{_/_, _%_, _<_};
 ghost use lib.Dec.{T};
-ghost use Rattle.rules.specs.Grid.{startMasks, startsOf, rowsThrough, numbered, nextFrom};
-ghost use Rattle.rules.specs.Forbidden.{moreThanOne, withBlack, strictOf, isReal, realThrees, realDouble};
+ghost use Rattle.rules.specs.Grid.{startMasks, startsOf, rowsThrough};
+ghost use Rattle.rules.specs.Forbidden.{moreThanOne, withBlack, strictOf, isReal, realDouble};
 ghost use Rattle.rules.specs.declared.Player.the-variants.{Black};
 ghost use Rattle.rules.specs.declared.RowKind.the-variants.{Three};
 ghost use Rattle.point.specs.Places.{addresses};
 ghost use Rattle.grid.specs.Lines.{cellsOf, Sound};
-ghost use Rattle.referee.specs.Referee.{Triable, strictBy, plainBy};
+ghost use Rattle.referee.specs.Referee.{Triable, KnownOf, strictBy, plainBy};
 
 // "The strict verdict is none at an occupied point or where a black Four goes through p (p completes a five); otherwise it is the plain
 // one."
@@ -85,7 +90,7 @@ fn trial(lines: &mut [u16; 144], table: &[u16; 900], code: u8, twos: [u16; 4]) -
     real
 }
 
-// Whether more than one of the Threes through the stone at a point is real: the first one, and one that is not next to it. No more are
+// Whether more than one of the Threes through the stone at a point is real. The eyes are looked at first, all of them; what is left open is
 // asked about.
 pub(crate) fn two_real(
     lines: &mut [u16; 144],
@@ -97,34 +102,28 @@ pub(crate) fn two_real(
         × (now table ≡ addresses) ⌝ }
     ensures { λ r. ⌜ (r ≡ realDouble strictOf (cellsOf (now (lines .entry))) code) × (now (lines .exit) ≡ now (lines .entry)) ⌝ }
 {
-    let first = first_real(lines, table, code, threes, 0);
-    if first < 64 {
-        return first_real(lines, table, code, threes, first + 2) < 64;
-    }
-    false
+    let seen = looked_at(lines, table, code, threes);
+    open_asked(lines, table, code, seen)
 }
 
-// The number of the first real Three from a number on, 64 where there is none.
-fn first_real(
-    lines: &mut [u16; 144],
-    table: &[u16; 900],
-    code: u8,
-    threes: [u16; 4],
-    from: u8,
-) -> u8
-    requires { ⌜ Sound (now lines) × (code < 225) × (threes ≡ startMasks (rowsThrough Black Three (cellsOf (now lines)) code))
+// .. by what the looks told: the Threes that they left open are asked about in order, until it is known.
+fn open_asked(lines: &mut [u16; 144], table: &[u16; 900], code: u8, seen: Known) -> bool
+    requires { ⌜ Sound (now lines) × (code < 225) × KnownOf (cellsOf (now lines)) code (seen .sure) (seen .left)
         × (now table ≡ addresses) ⌝ }
-    ensures { λ r. ⌜ (r ≡ nextFrom (numbered (realThrees strictOf (cellsOf (now (lines .entry))) code)) from)
-        × (now (lines .exit) ≡ now (lines .entry)) ⌝ }
+    ensures { λ r. ⌜ (r ≡ realDouble strictOf (cellsOf (now (lines .entry))) code) × (now (lines .exit) ≡ now (lines .entry)) ⌝ }
 {
-    let mut three = next_start(threes, from);
+    let left = seen.left;
+    let sure = seen.sure;
+    let rest = other_starts(left, sure);
+    let mut known = seen;
+    let mut three = next_unless(is_told(known), rest, 0);
     while three < 64 {
-        if is_real(lines, table, code, three) {
-            return three;
-        }
-        three = next_start(threes, three + 1);
+        let real = is_real(lines, table, code, three);
+        known = settled(known, three, real);
+        three = next_unless(is_told(known), rest, three + 1);
     }
-    64
+    let real = known.sure;
+    more_than_one(real)
 }
 
 // "a Three is real when its eye completes no black five on that board and the strict verdict there is none, at every level of nesting"

@@ -3,6 +3,7 @@
 mod cycle;
 mod eye;
 mod front;
+mod known;
 mod list;
 mod on_lines;
 mod rows;

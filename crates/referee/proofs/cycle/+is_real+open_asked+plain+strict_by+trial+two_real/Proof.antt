@@ -1,63 +1,67 @@
 -- The six functions of the cycle meet their contracts. What falls at each call is six times the number of empty points, and a little:
--- on one board `two_real` 6, `first_real` 5, `is_real` 4, `strict_by` 3, `plain` 2, `trial` 1. Assumes nothing.
+-- on one board `two_real` 6, `open_asked` 5, `is_real` 4, `strict_by` 3, `plain` 2, `trial` 1. Assumes nothing.
 use mathlib.Core.Path.{_≡_, refl, ap, sym, subst, _∙_}
 use mathlib.Core.List.{List}
 use native.Mathlib.Omega.{arith}
 use lib.Dec.{T}
 use borrow.Author.Needs.{needs}
-use Rattle.rules.specs.Grid.{empties, startsOf, rowsThrough, numbered, nextFrom}
-use Rattle.rules.specs.Forbidden.{isReal, realThrees, strictOf, realDouble}
+use Rattle.rules.specs.Grid.{empties, startsOf, rowsThrough, numbered}
+use Rattle.rules.specs.Forbidden.{isReal, strictOf, realDouble}
 use Rattle.rules.specs.declared.Player.the-variants.{Black}
 use Rattle.rules.specs.declared.RowKind.the-variants.{Three}
 use Rattle.rules.proofs.Logic.{true-T}
 use Rattle.grid.specs.Lines.{cellsOf, Sound}
-use Rattle.referee.specs.Referee.{plainBy, strictBy}
+use Rattle.referee.specs.Referee.{plainBy, strictBy, KnownOf}
 use Rattle.referee.proofs.RowsSeen.{triable}
 use Rattle.referee.proofs.EyeFound.{eye-small, eye-empty, five-seen, real-seen}
 use Rattle.referee.proofs.Asked.{on-sound, on-cells, on-fewer, on-threes, added, lifted, fewer}
-use Rattle.rules.proofs.Numbered.{next-ge, next-past}
-use Rattle.rules.proofs.Search.{to-start, three-there, found, passed, real-one, real-two}
+use Rattle.referee.proofs.Told.{Walked, open-left, left-three, known-settled, one-settled, stays-settled}
+use Rattle.referee.proofs.Told.{next-there, next-further, walk-first, walk-on, walk-done}
 use Prim.Native.Nat.{ℕ, _+_, _-_, _*_, _/_, _%_, _<_}
 use borrow.Fn.Kinds.{In}
 use borrow.Fn.PlainCycle.{Measures, is, falls, and}
-use Rattle.referee.proofs.cycle.first_real.Reads as first-real
-use Rattle.referee.proofs.cycle.first_real.Kinds as first-real-kinds
-use Rattle.referee.proofs.cycle.+first_real+is_real+plain+strict_by+trial+two_real.Lts-first_real as first-real-lts
+use Rattle.referee.proofs.cycle.open_asked.Reads as open-asked
+use Rattle.referee.proofs.cycle.open_asked.Kinds as open-asked-kinds
+use Rattle.referee.proofs.cycle.+is_real+open_asked+plain+strict_by+trial+two_real.Lts-open_asked as open-asked-lts
 use Rattle.referee.proofs.cycle.is_real.Reads as is-real
 use Rattle.referee.proofs.cycle.is_real.Kinds as is-real-kinds
-use Rattle.referee.proofs.cycle.+first_real+is_real+plain+strict_by+trial+two_real.Lts-is_real as is-real-lts
+use Rattle.referee.proofs.cycle.+is_real+open_asked+plain+strict_by+trial+two_real.Lts-is_real as is-real-lts
 use Rattle.referee.proofs.cycle.plain.Reads as plain
 use Rattle.referee.proofs.cycle.plain.Kinds as plain-kinds
-use Rattle.referee.proofs.cycle.+first_real+is_real+plain+strict_by+trial+two_real.Lts-plain as plain-lts
+use Rattle.referee.proofs.cycle.+is_real+open_asked+plain+strict_by+trial+two_real.Lts-plain as plain-lts
 use Rattle.referee.proofs.cycle.strict_by.Reads as strict-by
 use Rattle.referee.proofs.cycle.strict_by.Kinds as strict-by-kinds
-use Rattle.referee.proofs.cycle.+first_real+is_real+plain+strict_by+trial+two_real.Lts-strict_by as strict-by-lts
+use Rattle.referee.proofs.cycle.+is_real+open_asked+plain+strict_by+trial+two_real.Lts-strict_by as strict-by-lts
 use Rattle.referee.proofs.cycle.trial.Reads as trial
 use Rattle.referee.proofs.cycle.trial.Kinds as trial-kinds
-use Rattle.referee.proofs.cycle.+first_real+is_real+plain+strict_by+trial+two_real.Lts-trial as trial-lts
+use Rattle.referee.proofs.cycle.+is_real+open_asked+plain+strict_by+trial+two_real.Lts-trial as trial-lts
 use Rattle.referee.proofs.cycle.two_real.Reads as two-real
 use Rattle.referee.proofs.cycle.two_real.Kinds as two-real-kinds
-use Rattle.referee.proofs.cycle.+first_real+is_real+plain+strict_by+trial+two_real.Lts-two_real as two-real-lts
+use Rattle.referee.proofs.cycle.+is_real+open_asked+plain+strict_by+trial+two_real.Lts-two_real as two-real-lts
 use Rattle.grid.proofs.add_on.Reads as add-on-reads
 use Rattle.grid.proofs.lift_on.Reads as lift-on-reads
 use Rattle.near.proofs.more_than_one.Reads as more-than-one-reads
-use Rattle.near.proofs.next_start.Reads as next-start-reads
+use Rattle.near.proofs.other_starts.Reads as other-starts-reads
 use Rattle.near.proofs.some_row.Reads as some-row-reads
 use Rattle.referee.proofs.eye.eye_on.Reads as eye-on-reads
+use Rattle.referee.proofs.known.is_told.Reads as is-told-reads
+use Rattle.referee.proofs.known.looked_at.Reads as looked-at-reads
+use Rattle.referee.proofs.known.next_unless.Reads as next-unless-reads
+use Rattle.referee.proofs.known.settled.Reads as settled-reads
 use Rattle.referee.proofs.rows.rows_on.Reads as rows-on-reads
 use Rattle.rules.proofs.Verdict.is_none.Reads as is-none-reads
-use Rattle.referee.proofs.cycle.+first_real+is_real+plain+strict_by+trial+two_real.{
+use Rattle.referee.proofs.cycle.+is_real+open_asked+plain+strict_by+trial+two_real.{
   statement,
 }
-use Rattle.referee.proofs.cycle.+first_real+is_real+plain+strict_by+trial+two_real.Tie.{
+use Rattle.referee.proofs.cycle.+is_real+open_asked+plain+strict_by+trial+two_real.Tie.{
   close,
 }
 
-abbrev μ-first-real : Measures 2 first-real-kinds.ps ℕ
-μ-first-real κs a = 6 * empties (cellsOf (a .0 .now)) + 5
-
 abbrev μ-is-real : Measures 2 is-real-kinds.ps ℕ
 μ-is-real κs a = 6 * empties (cellsOf (a .0 .now)) + 4
+
+abbrev μ-open-asked : Measures 2 open-asked-kinds.ps ℕ
+μ-open-asked κs a = 6 * empties (cellsOf (a .0 .now)) + 5
 
 abbrev μ-plain : Measures 2 plain-kinds.ps ℕ
 μ-plain κs a = 6 * empties (cellsOf (a .0 .now)) + 2
@@ -71,19 +75,19 @@ abbrev μ-trial : Measures 2 trial-kinds.ps ℕ
 abbrev μ-two-real : Measures 2 two-real-kinds.ps ℕ
 μ-two-real κs a = 6 * empties (cellsOf (a .0 .now)) + 6
 
-abbrev first-real-at : ℕ → In 2 first-real-kinds.ps
-first-real-at t =
-    and 2 first-real-kinds.ps (is 2 first-real-kinds.ps μ-first-real t) first-real.Pre
-
-abbrev first-real-below : ℕ → In 2 first-real-kinds.ps
-first-real-below t =
-    and 2 first-real-kinds.ps (falls 2 first-real-kinds.ps _<_ μ-first-real t) first-real.Pre
-
 abbrev is-real-at : ℕ → In 2 is-real-kinds.ps
 is-real-at t = and 2 is-real-kinds.ps (is 2 is-real-kinds.ps μ-is-real t) is-real.Pre
 
 abbrev is-real-below : ℕ → In 2 is-real-kinds.ps
 is-real-below t = and 2 is-real-kinds.ps (falls 2 is-real-kinds.ps _<_ μ-is-real t) is-real.Pre
+
+abbrev open-asked-at : ℕ → In 2 open-asked-kinds.ps
+open-asked-at t =
+    and 2 open-asked-kinds.ps (is 2 open-asked-kinds.ps μ-open-asked t) open-asked.Pre
+
+abbrev open-asked-below : ℕ → In 2 open-asked-kinds.ps
+open-asked-below t =
+    and 2 open-asked-kinds.ps (falls 2 open-asked-kinds.ps _<_ μ-open-asked t) open-asked.Pre
 
 abbrev plain-at : ℕ → In 2 plain-kinds.ps
 plain-at t = and 2 plain-kinds.ps (is 2 plain-kinds.ps μ-plain t) plain.Pre
@@ -111,19 +115,33 @@ abbrev two-real-below : ℕ → In 2 two-real-kinds.ps
 two-real-below t =
     and 2 two-real-kinds.ps (falls 2 two-real-kinds.ps _<_ μ-two-real t) two-real.Pre
 
-abbrev first-real-Inv-loop : first-real-lts.InvT-loop
-first-real-Inv-loop lines₀ table code threes from three₀ lines three =
+abbrev open-asked-Inv-loop : open-asked-lts.InvT-loop
+open-asked-Inv-loop lines₀ table code rest known₀ three₀ lines known three =
     (lines ≡ lines₀)
-    × (nextFrom (numbered (realThrees strictOf (cellsOf lines₀) code)) from
-    ≡ nextFrom (numbered (realThrees strictOf (cellsOf lines₀) code)) three)
-    × ((n : ℕ) × (three ≡ nextFrom (numbered (startsOf threes)) n))
+    × KnownOf (cellsOf lines₀) code (known .sure) (known .left)
+    × (three < 64 → T (numbered (startsOf rest) three))
+    × ((k : ℕ) → k < 64 → T (numbered (startsOf rest) k) → T (rowsThrough Black Three (cellsOf lines₀) code (k / 16) (k % 16)))
+    × Walked rest (known .sure) (known .left) three
 
-abbrev first-real-μ-loop : first-real-lts.MeasureT-loop
-first-real-μ-loop lines₀ table code threes from three₀ lines three = 64 - three
+abbrev open-asked-μ-loop : open-asked-lts.MeasureT-loop
+open-asked-μ-loop lines₀ table code rest known₀ three₀ lines known three = 64 - three
 
--- what `first-real` is told of those that it calls
-abbrev first-real-calls : ℕ → first-real-lts.Claims
-first-real-calls t = (next-start-reads.Asked, next-start-reads.Learnt, is-real-below t, is-real.Post)
+-- what `open-asked` is told of those that it calls
+abbrev open-asked-calls : ℕ → open-asked-lts.Claims
+open-asked-calls t = (
+  other-starts-reads.Asked,
+  other-starts-reads.Learnt,
+  is-told-reads.Asked,
+  is-told-reads.Learnt,
+  next-unless-reads.Asked,
+  next-unless-reads.Learnt,
+  is-real-below t,
+  is-real.Post,
+  settled-reads.Asked,
+  settled-reads.Learnt,
+  more-than-one-reads.Asked,
+  more-than-one-reads.Learnt,
+)
 
 -- what `is-real` is told of those that it calls
 abbrev is-real-calls : ℕ → is-real-lts.Claims
@@ -161,105 +179,7 @@ trial-calls t = (add-on-reads.Asked, add-on-reads.Learnt, two-real-below t, two-
 
 -- what `two-real` is told of those that it calls
 abbrev two-real-calls : ℕ → two-real-lts.Claims
-two-real-calls t = (first-real-below t, first-real.Post)
-
-first-real-next-start-requires : (t : ℕ) → first-real-lts.Need-next-start-requires (first-real-calls t)
-    (first-real-at t) first-real.Post first-real-Inv-loop first-real-μ-loop
-first-real-next-start-requires t c κs = search needs
-
-first-real-loop-holds : (t : ℕ) → first-real-lts.Need-loop-holds (first-real-calls t)
-    (first-real-at t) first-real.Post first-real-Inv-loop first-real-μ-loop
-first-real-loop-holds t c =
-    let s = c .before in
-    let e = c .next-start .ensures in (
-      refl,
-      to-start (cellsOf (s .args .lines .now)) (s .args .code) (s .args .threes) (s .pre .1 .2) (s .args .from) _ e,
-      (s .args .from, e),
-    )
-
-first-real-is-real-requires : (t : ℕ) → first-real-lts.Need-is-real-requires (first-real-calls t)
-    (first-real-at t) first-real.Post first-real-Inv-loop first-real-μ-loop
-first-real-is-real-requires t c κs =
-    let i = c .before in
-    let a = i .before in
-    let s = a .before .before in
-    let L = s .args .lines .now in
-    let p = s .args .code in
-    let n = a .loop .inv .2 in
-    let e = a .loop .inv .0 in
-    let three = three-there (cellsOf L) p (s .args .threes) (s .pre .1 .2) (n .0) (a .loop .three) (n .1) (i .loop-test .taken) in (
-      fewer 4 L (a .loop .lines) t e (s .pre .0),
-      (
-        subst Sound (sym e) (s .pre .1 .0),
-        s .pre .1 .1,
-        i .loop-test .taken,
-        subst (λ (l : List ℕ). T (rowsThrough Black Three (cellsOf l) p (a .loop .three / 16) (a .loop .three % 16))) (sym e) three,
-        s .pre .1 .3,
-      ),
-    )
-
-first-real-returns : (t : ℕ) → first-real-lts.Need-returns (first-real-calls t)
-    (first-real-at t) first-real.Post first-real-Inv-loop first-real-μ-loop
-first-real-returns t c =
-    let r = c .before .is-real .ensures in
-    let i = c .before .before .before in
-    let a = i .before in
-    let s = a .before .before in
-    let p = s .args .code in
-    let k = a .loop .three in
-    let n = a .loop .inv .2 in
-    let e = a .loop .inv .0 in
-    let answer = r .0 ∙ ap (λ (l : List ℕ). isReal strictOf (cellsOf l) p (k / 16) (k % 16)) e in (
-      found (cellsOf (s .args .lines .now)) p (s .args .threes) (s .pre .1 .2) (n .0) k (n .1) (i .loop-test .taken) answer
-          (c .if1 .taken)
-          ∙ sym (a .loop .inv .1),
-      r .1 ∙ e,
-    )
-
-first-real-add-next-start : (t : ℕ) → first-real-lts.Need-add-next-start (first-real-calls t)
-    (first-real-at t) first-real.Post first-real-Inv-loop first-real-μ-loop
-first-real-add-next-start t c =
-    let t = c .before .before .before .loop-test .taken in
-    omega arith
-
-first-real-next-start-requires-2 : (t : ℕ) → first-real-lts.Need-next-start-requires-2 (first-real-calls t)
-    (first-real-at t) first-real.Post first-real-Inv-loop first-real-μ-loop
-first-real-next-start-requires-2 t c κs = search needs
-
-first-real-loop-less : (t : ℕ) → first-real-lts.Need-loop-less (first-real-calls t)
-    (first-real-at t) first-real.Post first-real-Inv-loop first-real-μ-loop
-first-real-loop-less t c =
-    let a = c .before .before .before .before .before in
-    let l = c .before .before .before .before .loop-test .taken in
-    let s = a .before .before in
-    let g = next-ge (numbered (startsOf (s .args .threes))) (a .loop .three + 1) (omega arith) in
-    omega (arith, c .next-start2 .ensures)
-
-first-real-loop-again : (t : ℕ) → first-real-lts.Need-loop-again (first-real-calls t)
-    (first-real-at t) first-real.Post first-real-Inv-loop first-real-μ-loop
-first-real-loop-again t c =
-    let r = c .before .before .is-real .ensures in
-    let i = c .before .before .before .before in
-    let a = i .before in
-    let s = a .before .before in
-    let C = cellsOf (s .args .lines .now) in
-    let p = s .args .code in
-    let k = a .loop .three in
-    let n = a .loop .inv .2 in
-    let e = a .loop .inv .0 in
-    let answer = r .0 ∙ ap (λ (l : List ℕ). isReal strictOf (cellsOf l) p (k / 16) (k % 16)) e in (
-      r .1 ∙ e,
-      a .loop .inv .1
-          ∙ passed C p (s .args .threes) (s .pre .1 .2) (n .0) k (n .1) (i .loop-test .taken) answer (c .before .if1 .left)
-          ∙ to-start C p (s .args .threes) (s .pre .1 .2) (k + 1) _ (c .next-start2 .ensures),
-      (k + 1, c .next-start2 .ensures),
-    )
-
-first-real-returns-2 : (t : ℕ) → first-real-lts.Need-returns-2 (first-real-calls t)
-    (first-real-at t) first-real.Post first-real-Inv-loop first-real-μ-loop
-first-real-returns-2 t c =
-    let a = c .before in
-    (sym (a .loop .inv .1 ∙ next-past _ (a .loop .three) (c .loop-test .left)), a .loop .inv .0)
+two-real-calls t = (looked-at-reads.Asked, looked-at-reads.Learnt, open-asked-below t, open-asked.Post)
 
 is-real-eye-on-requires : (t : ℕ) → is-real-lts.Need-eye-on-requires (is-real-calls t) (is-real-at t) is-real.Post
 is-real-eye-on-requires t c κs = c .before .pre .1
@@ -326,6 +246,120 @@ is-real-returns-2 t c =
           (t .3) (e .eye-on .ensures) (r .rows-on .ensures) (o .before .some-row .ensures) (o .if1 .left) (v .strict-by .ensures .0),
       v .strict-by .ensures .1,
     )
+
+open-asked-other-starts-requires : (t : ℕ) → open-asked-lts.Need-other-starts-requires (open-asked-calls t)
+    (open-asked-at t) open-asked.Post open-asked-Inv-loop open-asked-μ-loop
+open-asked-other-starts-requires t c κs = search needs
+
+open-asked-is-told-requires : (t : ℕ) → open-asked-lts.Need-is-told-requires (open-asked-calls t)
+    (open-asked-at t) open-asked.Post open-asked-Inv-loop open-asked-μ-loop
+open-asked-is-told-requires t c κs = search needs
+
+open-asked-next-unless-requires : (t : ℕ) → open-asked-lts.Need-next-unless-requires (open-asked-calls t)
+    (open-asked-at t) open-asked.Post open-asked-Inv-loop open-asked-μ-loop
+open-asked-next-unless-requires t c κs = search needs
+
+open-asked-loop-holds : (t : ℕ) → open-asked-lts.Need-loop-holds (open-asked-calls t)
+    (open-asked-at t) open-asked.Post open-asked-Inv-loop open-asked-μ-loop
+open-asked-loop-holds t c =
+    let i = c .before in
+    let o = i .before in
+    let s = o .before .before .before in
+    let known = s .pre .1 .2 in
+    let C = cellsOf (s .args .lines .now) in
+    let e = o .other-starts .ensures in (
+      refl,
+      known,
+      next-there _ 0 (i .is-told .result) (c .next-unless .ensures),
+      λ k hk u. left-three C (s .args .code) known k hk (open-left _ _ e k hk u),
+      walk-first _ 0 (i .is-told .result) (c .next-unless .ensures) _ _ refl (i .is-told .ensures) e,
+    )
+
+open-asked-is-real-requires : (t : ℕ) → open-asked-lts.Need-is-real-requires (open-asked-calls t)
+    (open-asked-at t) open-asked.Post open-asked-Inv-loop open-asked-μ-loop
+open-asked-is-real-requires t c κs =
+    let l = c .before in
+    let a = l .before in
+    let s = a .before .before .before .before .before .before in
+    let t = s .pre .1 in
+    let v = a .loop .inv in
+    let h = l .loop-test .taken in (
+      fewer 4 (s .args .lines .now) (a .loop .lines) _ (v .0) (s .pre .0),
+      (
+        subst Sound (sym (v .0)) (t .0),
+        t .1,
+        h,
+        subst (λ (l : List ℕ). T (rowsThrough Black Three (cellsOf l) (s .args .code) (a .loop .three / 16) (a .loop .three % 16))) (sym (v .0))
+            (v .3 (a .loop .three) h (v .2 h)),
+        t .3,
+      ),
+    )
+
+open-asked-settled-requires : (t : ℕ) → open-asked-lts.Need-settled-requires (open-asked-calls t)
+    (open-asked-at t) open-asked.Post open-asked-Inv-loop open-asked-μ-loop
+open-asked-settled-requires t c κs = search needs
+
+open-asked-is-told-requires-2 : (t : ℕ) → open-asked-lts.Need-is-told-requires-2 (open-asked-calls t)
+    (open-asked-at t) open-asked.Post open-asked-Inv-loop open-asked-μ-loop
+open-asked-is-told-requires-2 t c κs = search needs
+
+open-asked-add-next-unless : (t : ℕ) → open-asked-lts.Need-add-next-unless (open-asked-calls t)
+    (open-asked-at t) open-asked.Post open-asked-Inv-loop open-asked-μ-loop
+open-asked-add-next-unless t c =
+    let h = c .before .before .before .before .loop-test .taken in
+    omega arith
+
+open-asked-next-unless-requires-2 : (t : ℕ) → open-asked-lts.Need-next-unless-requires-2 (open-asked-calls t)
+    (open-asked-at t) open-asked.Post open-asked-Inv-loop open-asked-μ-loop
+open-asked-next-unless-requires-2 t c κs = search needs
+
+open-asked-loop-less : (t : ℕ) → open-asked-lts.Need-loop-less (open-asked-calls t)
+    (open-asked-at t) open-asked.Post open-asked-Inv-loop open-asked-μ-loop
+open-asked-loop-less t c =
+    let l = c .before .before .before .before .before in
+    let h = l .loop-test .taken in
+    let a = l .before in
+    let g = next-further _ (a .loop .three + 1) (c .before .is-told2 .result) (c .next-unless2 .ensures) (omega arith) in
+    omega arith
+
+open-asked-loop-again : (t : ℕ) → open-asked-lts.Need-loop-again (open-asked-calls t)
+    (open-asked-at t) open-asked.Post open-asked-Inv-loop open-asked-μ-loop
+open-asked-loop-again t c =
+    let told = c .before in
+    let f = told .before in
+    let r = f .before in
+    let l = r .before .before in
+    let a = l .before in
+    let s = a .before .before .before .before .before .before in
+    let v = a .loop .inv in
+    let h = l .loop-test .taken in
+    let C = cellsOf (s .args .lines .now) in
+    let p = s .args .code in
+    let k = a .loop .three in
+    let three = v .3 k h (v .2 h) in
+    let answer = r .is-real .ensures .0 ∙ ap (λ (l : List ℕ). isReal strictOf (cellsOf l) p (k / 16) (k % 16)) (v .0) in
+    let es = f .settled .ensures .0 in
+    let el = f .settled .ensures .1 in (
+      r .is-real .ensures .1 ∙ v .0,
+      known-settled C p (v .1) k h three (r .is-real .result) answer es el,
+      next-there _ (k + 1) (told .is-told2 .result) (c .next-unless2 .ensures),
+      v .3,
+      walk-on _ (k + 1) (told .is-told2 .result) (c .next-unless2 .ensures) _ _ _ _ k refl h (told .is-told2 .ensures)
+          (one-settled C p (v .1) k h three (r .is-real .result) answer es el) (stays-settled C p (v .1) k h three (r .is-real .result) answer es el) (v .4),
+    )
+
+open-asked-more-than-one-requires : (t : ℕ) → open-asked-lts.Need-more-than-one-requires (open-asked-calls t)
+    (open-asked-at t) open-asked.Post open-asked-Inv-loop open-asked-μ-loop
+open-asked-more-than-one-requires t c κs = search needs
+
+open-asked-returns : (t : ℕ) → open-asked-lts.Need-returns (open-asked-calls t)
+    (open-asked-at t) open-asked.Post open-asked-Inv-loop open-asked-μ-loop
+open-asked-returns t c =
+    let l = c .before .before in
+    let a = l .before in
+    let s = a .before .before .before .before .before .before in
+    let v = a .loop .inv in
+    (walk-done (cellsOf (s .args .lines .now)) (s .args .code) (v .1) _ _ (l .loop-test .left) (v .4) (c .more-than-one .ensures), v .0)
 
 plain-some-row-requires : (t : ℕ) → plain-lts.Need-some-row-requires (plain-calls t) (plain-at t) plain.Post
 plain-some-row-requires t c κs = search needs
@@ -456,74 +490,28 @@ trial-returns t c =
       lifted L _ p (s .pre .1 .2) (q .sound) hp (q .free) (a .add-on .ensures) (r .ensures .1) (c .lift-on .ensures),
     )
 
-two-real-first-real-requires : (t : ℕ) → two-real-lts.Need-first-real-requires (two-real-calls t) (two-real-at t) two-real.Post
-two-real-first-real-requires t c κs =
-    let s = c .before in
+two-real-looked-at-requires : (t : ℕ) → two-real-lts.Need-looked-at-requires (two-real-calls t) (two-real-at t) two-real.Post
+two-real-looked-at-requires t c κs = c .before .pre .1
+
+two-real-open-asked-requires : (t : ℕ) → two-real-lts.Need-open-asked-requires (two-real-calls t) (two-real-at t) two-real.Post
+two-real-open-asked-requires t c κs =
+    let s = c .before .before .before in
     let m = s .pre .0 in
-    (omega arith, s .pre .1)
+    let q = s .pre .1 in
+    (omega arith, (q .0, q .1, c .before .looked-at .ensures, q .3))
 
-two-real-add-first-real : (t : ℕ) → two-real-lts.Need-add-first-real (two-real-calls t) (two-real-at t) two-real.Post
-two-real-add-first-real t c =
-    let l = c .before .if1 .taken in
-    omega arith
+two-real-returns : (t : ℕ) → two-real-lts.Need-returns (two-real-calls t) (two-real-at t) two-real.Post
+two-real-returns t c = c .open-asked .ensures
 
-two-real-first-real-requires-2 : (t : ℕ) → two-real-lts.Need-first-real-requires-2 (two-real-calls t) (two-real-at t) two-real.Post
-two-real-first-real-requires-2 t c κs =
-    let f = c .before .before in
-    let s = f .before .before in
-    let e = f .first-real .ensures .1 in
-    (fewer 5 (s .args .lines .now) _ t e (s .pre .0), rw e (s .pre .1))
-
-two-real-returns :
-    (t : ℕ) →
-    two-real-lts.Need-returns (first-real-below t, first-real.Post) (two-real-at t) two-real.Post
-two-real-returns t c =
-    let f = c .before .before .before in
-    let s = f .before .before in
-    let p = s .args .code in
-    let e = f .first-real .ensures .1 in
-    let g = c .first-real2 .ensures in (
-      real-two (cellsOf (s .args .lines .now)) p (f .first-real .ensures .0) (c .before .before .if1 .taken)
-          (g .0 ∙ ap (λ (l : List ℕ). nextFrom (numbered (realThrees strictOf (cellsOf l) p)) (f .first-real .result + 2)) e),
-      g .1 ∙ e,
-    )
-
-two-real-returns-2 :
-    (t : ℕ) →
-    two-real-lts.Need-returns-2
-    (first-real-below t, first-real.Post)
-    (two-real-at t)
-    two-real.Post
-two-real-returns-2 t c =
-    let f = c .before in
-    let s = f .before .before in (
-      real-one (cellsOf (s .args .lines .now)) (s .args .code) (f .first-real .ensures .0) (c .if1 .left),
-      f .first-real .ensures .1,
-    )
-
-pub +first-real+is-real+plain+strict-by+trial+two-real-spec : {M : Type 1} → statement M
-+first-real+is-real+plain+strict-by+trial+two-real-spec =
+pub +is-real+open-asked+plain+strict-by+trial+two-real-spec : {M : Type 1} → statement M
++is-real+open-asked+plain+strict-by+trial+two-real-spec =
     close
-    μ-first-real
     μ-is-real
+    μ-open-asked
     μ-plain
     μ-strict-by
     μ-trial
     μ-two-real
-    (λ t. first-real-lts.spec (first-real-calls t)
-    (first-real-at t)
-    first-real.Post
-    first-real-Inv-loop
-    first-real-μ-loop
-    (first-real-next-start-requires t)
-    (first-real-loop-holds t)
-    (first-real-is-real-requires t)
-    (first-real-returns t)
-    (first-real-add-next-start t)
-    (first-real-next-start-requires-2 t)
-    (first-real-loop-less t)
-    (first-real-loop-again t)
-    (first-real-returns-2 t))
     (λ t. is-real-lts.spec (is-real-calls t)
     (is-real-at t)
     is-real.Post
@@ -534,6 +522,24 @@ pub +first-real+is-real+plain+strict-by+trial+two-real-spec : {M : Type 1} → s
     (is-real-strict-by-requires t)
     (is-real-is-none-requires t)
     (is-real-returns-2 t))
+    (λ t. open-asked-lts.spec (open-asked-calls t)
+    (open-asked-at t)
+    open-asked.Post
+    open-asked-Inv-loop
+    open-asked-μ-loop
+    (open-asked-other-starts-requires t)
+    (open-asked-is-told-requires t)
+    (open-asked-next-unless-requires t)
+    (open-asked-loop-holds t)
+    (open-asked-is-real-requires t)
+    (open-asked-settled-requires t)
+    (open-asked-is-told-requires-2 t)
+    (open-asked-add-next-unless t)
+    (open-asked-next-unless-requires-2 t)
+    (open-asked-loop-less t)
+    (open-asked-loop-again t)
+    (open-asked-more-than-one-requires t)
+    (open-asked-returns t))
     (λ t. plain-lts.spec (plain-calls t)
     (plain-at t)
     plain.Post
@@ -561,11 +567,9 @@ pub +first-real+is-real+plain+strict-by+trial+two-real-spec : {M : Type 1} → s
     (trial-lift-on-requires t)
     (trial-returns t))
     λ t. two-real-lts.spec
-    (first-real-below t, first-real.Post)
+    (two-real-calls t)
     (two-real-at t)
     two-real.Post
-    (two-real-first-real-requires t)
-    (two-real-add-first-real t)
-    (two-real-first-real-requires-2 t)
+    (two-real-looked-at-requires t)
+    (two-real-open-asked-requires t)
     (two-real-returns t)
-    (two-real-returns-2 t)
