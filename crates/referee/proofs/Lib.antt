@@ -6,6 +6,8 @@ pub mod RowsSeen
 pub mod EyeFound
 -- what is known of the Threes through a stone: by what was found of one, by a look at its eye, and in the end
 pub mod Told
+-- the line through a point, read off the cells from its last cell back
+pub mod Backward
 -- the strict question on sound lines: the cell at the point; the trial stone put and taken off
 pub mod Asked
 -- where the sweep has no mark the verdict is none: whole columns may be passed over

@@ -12,11 +12,11 @@ use point::line_size;
 use point::step_in;
 use rules::Verdict;
 ghost use mathlib.Core.Path.{_≡_};
-ghost use mathlib.Core.Bool.{_&&_, _||_, cond};
-ghost use Prim.Native.Nat.{_<_};
+ghost use mathlib.Core.Bool.{_||_, cond};
+ghost use Prim.Native.Nat.{_+_, _*_, _≤_, _<_};
 ghost use lib.Dec.{eqb};
 ghost use lib.ListN.{getD};
-ghost use Rattle.rules.specs.Bit.{bit, maskOf};
+ghost use Rattle.rules.specs.Bit.{digit, maskOf};
 ghost use Rattle.rules.specs.Point.{lineNo};
 ghost use Rattle.rules.specs.Grid.{stoneAt, startsOf};
 ghost use Rattle.rules.specs.Forbidden.{strictOf, someRow, moreThanOne, blackRows};
@@ -107,7 +107,8 @@ pub(crate) fn rows_of(cells: &[u8], code: u8) -> Rows
     )
 }
 
-// The stones on the line through a point in one direction, cell by cell.
+// The stones on the line through a point in one direction, cell by cell from the last one back: each moves on what was read before it, black
+// stones in the low half of one number, white ones in the high half.
 fn stones_along(cells: &[u8], d: u8, code: u8) -> LineStones
     requires { ⌜ Cells (now cells) × (code < 225) × (d < 4) ⌝ }
     ensures { λ r. ⌜ (r .blacks ≡ maskOf 16 (stoneAt Black (now (cells .entry)) d (lineNo d code)))
@@ -116,24 +117,24 @@ fn stones_along(cells: &[u8], d: u8, code: u8) -> LineStones
     let size = line_size(d, line_no(d, code));
     let step = step_in(d) as usize;
     let back = (cell_no(d, code) as usize) * step;
-    let mut p = (code as usize) - back;
-    let mut blacks = 0u16;
-    let mut whites = 0u16;
-    let mut j = 0u8;
-    while j < size {
-        let value = cells[p];
-        blacks = with_stone(blacks, value == 1, j);
-        whites = with_stone(whites, value == 2, j);
-        p += step;
-        j += 1;
+    let mut p = (code as usize) - back + (size as usize) * step;
+    let mut both = 0u32;
+    let mut j = size;
+    while 0 < j {
+        p -= step;
+        both = both * 2 + in_halves(cells[p]);
+        j -= 1;
     }
-    LineStones { blacks, whites }
+    LineStones {
+        blacks: (both % 65536) as u16,
+        whites: (both / 65536) as u16,
+    }
 }
 
-// The stones with one more at cell j, if there is one. (`set_bit` would look whether j is a bit, and clear it where there is none.)
-fn with_stone(stones: u16, on: bool, j: u8) -> u16
-    requires { ⌜ j < 16 ⌝ }
-    ensures { λ r. ⌜ r ≡ maskOf 16 (λ i. bit stones i || on && eqb i j) ⌝ }
+// A cell's stone: 1 for a black one, 65536 for a white one. No branch, and the one product is a shift and a sum.
+fn in_halves(value: u8) -> u32
+    requires { ⌜ value ≤ 2 ⌝ }
+    ensures { λ r. ⌜ r ≡ digit (eqb value 1) + 65536 * digit (eqb value 2) ⌝ }
 {
-    if on { stones | 1u16 << j } else { stones }
+    (value as u32) * 32769 & 65537
 }
