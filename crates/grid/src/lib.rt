@@ -20,4 +20,6 @@ pub use store::mark_on;
 pub use store::mask_on;
 pub use store::put_on;
 pub use store::remove_on;
+pub use through::Stones;
 pub use through::masks_on;
+pub use through::stones_on;

@@ -25,7 +25,8 @@ module _ (masks : List ℕ) {w : ℕ} (e : w ≡ maskOf 64 (numbered (startsOf m
   at : (d j : ℕ) → d < 4 → j < 16 → bit w (16 * d + j) ≡ startsOf masks d j
   unfolding numbered
   at d j hd hj =
-      ap (λ (x : ℕ). bit x (16 * d + j)) e ∙ bit-mask 64 _ (16 * d + j) (omega arith) ∙ ap₂ (startsOf masks) (in-line d j hj) (in-cell d j hj)
+      ap (λ (x : ℕ). bit x (16 * d + j)) e ∙ bit-mask 64 _ (16 * d + j) (omega arith)
+      ∙ ap₂ (startsOf masks) (in-line d j hj) (in-cell d j hj)
 
   module _ (k : ℕ) (on : Bool) {r : List ℕ} where
     pub put-in : on ≡ true → k < 64 → r ≡ tab 4 (λ d. maskOf 16 (λ j. bit (bitOr w ((1 * 2 ^ k) % 2 ^ 64)) (16 * d + j)))

@@ -20,7 +20,7 @@ use Rattle.rules.proofs.Tables.{table2, table4, table5, beq-eq}
 use Rattle.rules.proofs.Bits.{bit-or, bit-mod, bit-shr, bit-shl-in, bit-one-in, bit-above, bit-mask}
 use Rattle.rules.proofs.Bits.{mask-and, mask-not, mask-ext, mask-cong}
 use Rattle.masks.proofs.Windows.{shr-lt, shr1, shr2, shr3, shr4}
-use Rattle.near.specs.Places.{placeIn, spotAt}
+use Rattle.near.specs.Places.{placeIn, spotAt, reaching}
 
 -- ---- what the code computes stays below 2 ^ 64: `search wide` closes the goal that a word fits
 pub and64 : (a b : ℕ) → a < 2 ^ 64 → b < 2 ^ 64 → bitAnd a b < 2 ^ 64
@@ -253,3 +253,11 @@ reach-place n p d j {s} {r} hd hj h es er =
     on i l =
         ap (λ (x : ℕ). bit x (16 * d + j + i)) es ∙ bit-mask 64 (spotAt p) (16 * d + j + i) (omega arith)
         ∙ ap₂ (λ (a b : ℕ). eqb b (cellNo a p)) (omega arith) (omega arith)
+
+-- what is read of places that reach p
+pub reached : (n p m : ℕ) {s r : ℕ} {t : List ℕ} → s ≡ maskOf 64 (spotAt p) → r ≡ maskOf 64 (λ k. anyBelow n (λ i. bit s (k + i)))
+    → t ≡ tab 4 (λ d. maskOf 16 (λ j. bit (bitAnd m r) (16 * d + j))) → t ≡ reaching n p m
+unfolding reaching
+reached n p m es er et =
+    et ∙ ap (λ (x : ℕ). tab 4 (λ d. maskOf 16 (λ j. bit (bitAnd m x) (16 * d + j))))
+    (er ∙ ap (λ (x : ℕ). maskOf 64 (λ k. anyBelow n (λ i. bit x (k + i)))) es)

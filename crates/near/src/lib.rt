@@ -8,6 +8,7 @@ mod words;
 
 pub use eyes::first_gap;
 pub use rows::Rows;
+pub use rows::black_rows_near;
 pub use rows::rows_near;
 pub use starts::more_than_one;
 pub use starts::next_start;

@@ -99,8 +99,10 @@ module _ (cells : List ℕ) (d p : ℕ) {size step : ℕ} where
     read-end h =
         let a = mask-lt 15 (stoneAt Black cells d (lineNo d p)) in
         let b = mask-lt 15 (stoneAt White cells d (lineNo d p)) in
-        let e = w .halves ∙ ap₂ (λ (a b : ℕ). a + 65536 * b) (at Black) (at White) in
-        (low _ (maskOf 15 (stoneAt White cells d (lineNo d p))) e a ∙ sym (whole Black), high (maskOf 15 (stoneAt Black cells d (lineNo d p))) _ e a ∙ sym (whole White))
+        let e = w .halves ∙ ap₂ (λ (a b : ℕ). a + 65536 * b) (at Black) (at White) in (
+          low _ (maskOf 15 (stoneAt White cells d (lineNo d p))) e a ∙ sym (whole Black),
+          high (maskOf 15 (stoneAt Black cells d (lineNo d p))) _ e a ∙ sym (whole White),
+        )
       where
         at : (r : Player) → maskOf 15 (λ k. stoneAt r cells d (lineNo d p) (j + k)) ≡ maskOf 15 (stoneAt r cells d (lineNo d p))
         at r = mask-cong 15 _ _ (λ k l. ap (stoneAt r cells d (lineNo d p)) (omega arith))

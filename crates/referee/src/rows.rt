@@ -1,11 +1,11 @@
 // Black's rows through a point of the stored lines, as four start masks for each kind.
 use super::cycle::plain;
 use super::cycle::two_real;
-use grid::masks_on;
 use grid::put_on;
 use grid::row_starts_by;
+use grid::stones_on;
 use near::Rows;
-use near::rows_near;
+use near::black_rows_near;
 use point::addresses;
 use rules::Player;
 use rules::RowKind;
@@ -23,12 +23,10 @@ pub(crate) fn rows_on(lines: &[u16; 144], table: &[u16; 900], code: u8) -> Rows
     requires { ⌜ Sound (now lines) × (code < 225) × (now table ≡ addresses) ⌝ }
     ensures { λ r. ⌜ RowsAre (blackRows (cellsOf (now (lines .entry))) code) r ⌝ }
 {
-    rows_near(
-        masks_on(lines, table, code, Player::Black),
-        masks_on(lines, table, code, Player::White),
-        code,
-        true,
-    )
+    let stones = stones_on(lines, table, code, Player::Black);
+    let blacks = stones.own;
+    let whites = stones.other;
+    black_rows_near(blacks, whites, code)
 }
 
 // The plain verdict at an empty point.

@@ -12,29 +12,27 @@ use Rattle.referee.proofs.rows.rows_on.Statement.{statement}
 use Rattle.referee.proofs.rows.rows_on.Tie as tie
 use Rattle.referee.proofs.rows.rows_on.Reads as reads
 use Rattle.referee.proofs.rows.rows_on.Lts as lts
-use Rattle.grid.proofs.masks_on.Reads as masks-on-reads
-use Rattle.near.proofs.rows_near.Reads as rows-near-reads
+use Rattle.grid.proofs.stones_on.Reads as stones-on-reads
+use Rattle.near.proofs.black_rows_near.Reads as black-rows-near-reads
 
-masks-on-requires : tie.Need-masks-on-requires
-masks-on-requires c κs = search needs
+stones-on-requires : tie.Need-stones-on-requires
+stones-on-requires c κs = search needs
 
-masks-on-requires-2 : tie.Need-masks-on-requires-2
-masks-on-requires-2 c κs = search needs
-
-rows-near-requires : tie.Need-rows-near-requires
-rows-near-requires c κs = search needs
+black-rows-near-requires : tie.Need-black-rows-near-requires
+black-rows-near-requires c κs = search needs
 
 returns : tie.Need-returns
 returns c =
-    let b = c .before .before in
+    let b = c .before .before .before in
     let s = b .before in
     let l = s .args .lines .now in
     let p = s .args .code in
     rows-seen Black (cellsOf l) _ _ p (s .pre .1)
-    (subst (MasksOf Black (cellsOf l) p) (sym (b .masks-on .ensures ∙ masks-by l _ p Black (s .pre .2))) (masks-sound Black l p (s .pre .0) (s .pre .1)))
-    (subst (MasksOf White (cellsOf l) p) (sym (c .before .masks-on2 .ensures ∙ masks-by l _ p White (s .pre .2))) (masks-sound White l p (s .pre .0) (s .pre .1)))
-    (c .rows-near .ensures)
+    (subst (MasksOf Black (cellsOf l) p) (sym (b .stones-on .ensures .0 ∙ masks-by l _ p Black (s .pre .2)))
+    (masks-sound Black l p (s .pre .0) (s .pre .1)))
+    (subst (MasksOf White (cellsOf l) p) (sym (b .stones-on .ensures .1 ∙ masks-by l _ p White (s .pre .2)))
+    (masks-sound White l p (s .pre .0) (s .pre .1)))
+    (c .black-rows-near .ensures)
 
 pub rows-on-spec : {M : Type 1} → statement M
-rows-on-spec =
-    tie.close (tie.spec masks-on-requires masks-on-requires-2 rows-near-requires returns)
+rows-on-spec = tie.close (tie.spec stones-on-requires black-rows-near-requires returns)
