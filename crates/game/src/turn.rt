@@ -5,7 +5,7 @@ use super::report::Winner;
 use grid::add_on;
 use grid::cell_on;
 use grid::cells_on;
-use grid::masks_on;
+use grid::stones_on;
 use near::Rows;
 use near::rows_near;
 use near::some_row;
@@ -74,12 +74,10 @@ fn rows_for(lines: &[u16; 144], table: &[u16; 900], code: u8, player: Player) ->
     requires { ⌜ Sound (now lines) × (code < 225) × (now table ≡ addresses) ⌝ }
     ensures { λ r. ⌜ RowsAre (λ kind. rowsThrough player kind (cellsOf (now (lines .entry))) code) r ⌝ }
 {
-    rows_near(
-        masks_on(lines, table, code, player),
-        masks_on(lines, table, code, player.opponent()),
-        code,
-        player.is_black(),
-    )
+    let stones = stones_on(lines, table, code, player);
+    let own = stones.own;
+    let other = stones.other;
+    rows_near(own, other, code, player.is_black())
 }
 
 // Whether the move is forbidden to the player. Only where Black's rows leave room for some kind is the referee asked.
