@@ -70,22 +70,23 @@ no-starts k hk t = go (k / 16) (omega arith) (and-right (ltb (k % 16) 15) _ t)
     go (suc (suc (suc (suc d)))) h u = absurd (omega arith)
 
 -- the starts that are left out of others
-module _ (left sure : List ℕ) {rest : List ℕ} (e : rest ≡ startMasks (λ d j. startsOf left d j && not (startsOf sure d j))) (k : ℕ) (hk : k < 64)
-  where
-    open-at : numbered (startsOf rest) k ≡ (ltb (k % 16) 15 && (numbered (startsOf left) k && not (numbered (startsOf sure) k)))
-    unfolding numbered
-    open-at = ap (λ (m : List ℕ). startsOf m (k / 16) (k % 16)) e ∙ masked (λ d j. startsOf left d j && not (startsOf sure d j)) k hk
+module _ (left sure : List ℕ) {rest : List ℕ} (e : rest ≡ startMasks (λ d j. startsOf left d j && not (startsOf sure d j)))
+    (k : ℕ) (hk : k < 64) where
+  open-at : numbered (startsOf rest) k ≡ (ltb (k % 16) 15 && (numbered (startsOf left) k && not (numbered (startsOf sure) k)))
+  unfolding numbered
+  open-at = ap (λ (m : List ℕ). startsOf m (k / 16) (k % 16)) e ∙ masked (λ d j. startsOf left d j && not (startsOf sure d j)) k hk
 
-    pub open-left : T (numbered (startsOf rest) k) → T (numbered (startsOf left) k)
-    open-left t = and-left (numbered (startsOf left) k) _ (and-right (ltb (k % 16) 15) _ (along open-at t))
+  pub open-left : T (numbered (startsOf rest) k) → T (numbered (startsOf left) k)
+  open-left t = and-left (numbered (startsOf left) k) _ (and-right (ltb (k % 16) 15) _ (along open-at t))
 
-    pub not-open : (T (numbered (startsOf rest) k) → ⊥) → T (numbered (startsOf left) k) → T (numbered (startsOf sure) k)
-    not-open n t = go (numbered (startsOf sure) k) refl
-      where
-        go : (b : Bool) → numbered (startsOf sure) k ≡ b → T b
-        go true q = tt
-        go false q =
-            n (along (sym open-at) (and-intro (ltb (k % 16) 15) _ (start-short left k t) (and-intro (numbered (startsOf left) k) _ t (rw q tt))))
+  pub not-open : (T (numbered (startsOf rest) k) → ⊥) → T (numbered (startsOf left) k) → T (numbered (startsOf sure) k)
+  not-open n t = go (numbered (startsOf sure) k) refl
+    where
+      go : (b : Bool) → numbered (startsOf sure) k ≡ b → T b
+      go true q = tt
+      go false q =
+          n (along (sym open-at)
+          (and-intro (ltb (k % 16) 15) _ (start-short left k t) (and-intro (numbered (startsOf left) k) _ t (rw q tt))))
 
 -- ---- one Three settled: put among the sure ones, or taken from those that are left
 
@@ -112,7 +113,8 @@ module _ (sure : List ℕ) (i : ℕ) {sure′ : List ℕ} where
       → (k : ℕ) → k < 64 → T (numbered (startsOf sure′) k) → ((found ≡ true) × (k ≡ i)) ⊎ T (numbered (startsOf sure) k)
   sure-back true e k hk t = go (eqb k i) refl (and-right (ltb (k % 16) 15) _ (along (sure-at true e k hk) t))
     where
-      go : (b : Bool) → eqb k i ≡ b → T (cond b true (numbered (startsOf sure) k)) → ((true ≡ true) × (k ≡ i)) ⊎ T (numbered (startsOf sure) k)
+      go : (b : Bool) → eqb k i ≡ b → T (cond b true (numbered (startsOf sure) k))
+          → ((true ≡ true) × (k ≡ i)) ⊎ T (numbered (startsOf sure) k)
       go true q u = inl (refl, eqb→eq k i (true-T q))
       go false q u = inr u
   sure-back false e k hk t = inr (along (sure-at false e k hk) t)
@@ -130,7 +132,8 @@ module _ (left : List ℕ) (i : ℕ) {left′ : List ℕ} where
   left-back true e k hk t = (along (left-at true e k hk) t, λ q. absurd (no-true (sym q)))
   left-back false e k hk t = go (eqb k i) refl (and-right (ltb (k % 16) 15) _ (along (left-at false e k hk) t))
     where
-      go : (b : Bool) → eqb k i ≡ b → T (cond b false (numbered (startsOf left) k)) → T (numbered (startsOf left) k) × (false ≡ false → k ≡ i → ⊥)
+      go : (b : Bool) → eqb k i ≡ b → T (cond b false (numbered (startsOf left) k))
+          → T (numbered (startsOf left) k) × (false ≡ false → k ≡ i → ⊥)
       go true q u = absurd u
       go false q u = (u, λ f r. subst T (sym (T-true (subst (λ (x : ℕ). T (eqb k x)) r (eqb-refl k))) ∙ q) tt)
 
@@ -349,7 +352,8 @@ module _ (l : List ℕ) (p d j : ℕ) (s : Sound l) (hp : p < 225) (hd : d < 4) 
   -- neither that, nor more than one Two: it is real
   pub clear-seen : shut ≡ false → moreThanOne (startsOf (r .twos)) ≡ false → true ≡ isReal strictOf (cellsOf l) p d j
   unfolding strictBy plainBy
-  clear-seen h m = go (someRow (startsOf (r .fours))) refl (someRow (startsOf (r .overlinings))) refl (moreThanOne (startsOf (r .swords))) refl
+  clear-seen h m =
+      go (someRow (startsOf (r .fours))) refl (someRow (startsOf (r .overlinings))) refl (moreThanOne (startsOf (r .swords))) refl
     where
       go : (a : Bool) → someRow (startsOf (r .fours)) ≡ a → (b : Bool) → someRow (startsOf (r .overlinings)) ≡ b
           → (c : Bool) → moreThanOne (startsOf (r .swords)) ≡ c → true ≡ isReal strictOf (cellsOf l) p d j

@@ -38,8 +38,10 @@ pub(crate) fn is_told(known: Known) -> bool
 
 // .. with what was found of the Three of a number.
 pub(crate) fn settled(known: Known, three: u8, real: bool) -> Known
-    ensures { λ r. ⌜ (r .sure ≡ cond real (startMasks (λ d j. cond (eqb (16 * d + j) three) real (startsOf (known .sure) d j))) (known .sure))
-        × (r .left ≡ cond real (known .left) (startMasks (λ d j. cond (eqb (16 * d + j) three) real (startsOf (known .left) d j)))) ⌝ }
+    ensures { λ r. ⌜ (r .sure ≡ cond real (startMasks (λ d j. cond (eqb (16 * d + j) three) real (startsOf (known .sure) d j)))
+        (known .sure))
+        × (r .left ≡ cond real (known .left)
+        (startMasks (λ d j. cond (eqb (16 * d + j) three) real (startsOf (known .left) d j)))) ⌝ }
 {
     let sure = known.sure;
     let left = known.left;
@@ -83,8 +85,8 @@ pub(crate) fn looked_at(lines: &[u16; 144], table: &[u16; 900], code: u8, threes
     known
 }
 
-// One look: a Three is not real where its eye completes a five, or where the verdict there is a kind that no trial tells. It is real where no
-// trial can tell one. What is left is open.
+// One look: a Three is not real where its eye completes a five, or where the verdict there is a kind that no trial tells. It is real where
+// no trial can tell one. What is left is open.
 fn looked(lines: &[u16; 144], table: &[u16; 900], code: u8, three: u8, known: Known) -> Known
     requires { ⌜ Sound (now lines) × (code < 225) × (three < 64)
         × T (rowsThrough Black Three (cellsOf (now lines)) code (three / 16) (three % 16)) × (now table ≡ addresses)
@@ -105,7 +107,8 @@ fn looked(lines: &[u16; 144], table: &[u16; 900], code: u8, three: u8, known: Kn
 
 // A five, an overline or a double four by the rows through a point.
 fn is_shut(rows: Rows) -> bool
-    ensures { λ r. ⌜ r ≡ (someRow (startsOf (rows .fours)) || someRow (startsOf (rows .overlinings)) || moreThanOne (startsOf (rows .swords))) ⌝ }
+    ensures { λ r. ⌜ r ≡ (someRow (startsOf (rows .fours)) || someRow (startsOf (rows .overlinings))
+        || moreThanOne (startsOf (rows .swords))) ⌝ }
 {
     let fours = rows.fours;
     let overlinings = rows.overlinings;

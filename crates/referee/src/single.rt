@@ -107,8 +107,8 @@ pub(crate) fn rows_of(cells: &[u8], code: u8) -> Rows
     )
 }
 
-// The stones on the line through a point in one direction, cell by cell from the last one back: each moves on what was read before it, black
-// stones in the low half of one number, white ones in the high half.
+// The stones on the line through a point in one direction, cell by cell from the last one back: each moves on what was read before it.
+// Black stones are in the low half of one number, white ones in the high half.
 fn stones_along(cells: &[u8], d: u8, code: u8) -> LineStones
     requires { ⌜ Cells (now cells) × (code < 225) × (d < 4) ⌝ }
     ensures { λ r. ⌜ (r .blacks ≡ maskOf 16 (stoneAt Black (now (cells .entry)) d (lineNo d code)))

@@ -289,8 +289,8 @@ open-asked-is-real-requires t c κs =
         subst Sound (sym (v .0)) (t .0),
         t .1,
         h,
-        subst (λ (l : List ℕ). T (rowsThrough Black Three (cellsOf l) (s .args .code) (a .loop .three / 16) (a .loop .three % 16))) (sym (v .0))
-            (v .3 (a .loop .three) h (v .2 h)),
+        subst (λ (l : List ℕ). T (rowsThrough Black Three (cellsOf l) (s .args .code) (a .loop .three / 16) (a .loop .three % 16)))
+            (sym (v .0)) (v .3 (a .loop .three) h (v .2 h)),
         t .3,
       ),
     )
@@ -345,7 +345,8 @@ open-asked-loop-again t c =
       next-there _ (k + 1) (told .is-told2 .result) (c .next-unless2 .ensures),
       v .3,
       walk-on _ (k + 1) (told .is-told2 .result) (c .next-unless2 .ensures) _ _ _ _ k refl h (told .is-told2 .ensures)
-          (one-settled C p (v .1) k h three (r .is-real .result) answer es el) (stays-settled C p (v .1) k h three (r .is-real .result) answer es el) (v .4),
+          (one-settled C p (v .1) k h three (r .is-real .result) answer es el)
+          (stays-settled C p (v .1) k h three (r .is-real .result) answer es el) (v .4),
     )
 
 open-asked-more-than-one-requires : (t : ℕ) → open-asked-lts.Need-more-than-one-requires (open-asked-calls t)

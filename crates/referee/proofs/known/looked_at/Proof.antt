@@ -74,8 +74,10 @@ loop-again : tie.Need-loop-again Inv-loop μ-loop
 loop-again c =
     let l = c .before .before .before in
     let a = l .before in
-    let s = a .before .before in
-    (c .before .before .looked .ensures, next-there (s .args .threes) (a .loop .three + 1) (c .before .is-told .result) (c .next-unless .ensures))
+    let s = a .before .before in (
+      c .before .before .looked .ensures,
+      next-there (s .args .threes) (a .loop .three + 1) (c .before .is-told .result) (c .next-unless .ensures),
+    )
 
 returns : tie.Need-returns Inv-loop μ-loop
 returns c = c .before .loop .inv .0

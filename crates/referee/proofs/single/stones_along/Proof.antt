@@ -88,14 +88,19 @@ shared-slice-read-in-halves c =
     let i = c .before in
     let l = i .before in
     let s = l .before .before .before .before .before .before in
-    omega (arith, s .pre .0 .long, stands-lt (s .args .cells .now) (s .args .d) (s .args .code) (l .loop .inv) (s .pre .2) (s .pre .1) (i .loop-test .taken))
+    omega (
+      arith,
+      s .pre .0 .long,
+      stands-lt (s .args .cells .now) (s .args .d) (s .args .code) (l .loop .inv) (s .pre .2) (s .pre .1) (i .loop-test .taken),
+    )
 
 in-halves-requires : tie.Need-in-halves-requires Inv-loop μ-loop
 in-halves-requires c κs =
     let i = c .before in
     let l = i .before in
     let s = l .before .before .before .before .before .before in
-    s .pre .0 .small _ (stands-lt (s .args .cells .now) (s .args .d) (s .args .code) (l .loop .inv) (s .pre .2) (s .pre .1) (i .loop-test .taken))
+    s .pre .0 .small _
+    (stands-lt (s .args .cells .now) (s .args .d) (s .args .code) (l .loop .inv) (s .pre .2) (s .pre .1) (i .loop-test .taken))
 
 add-both : tie.Need-add-both Inv-loop μ-loop
 add-both c =
@@ -116,7 +121,8 @@ loop-again c =
     let i = c .before .before in
     let l = i .before in
     let s = l .before .before .before .before .before .before in
-    read-on (s .args .cells .now) (s .args .d) (s .args .code) (l .loop .inv) (s .pre .2) (s .pre .1) (i .loop-test .taken) refl (c .in-halves .ensures)
+    read-on (s .args .cells .now) (s .args .d) (s .args .code) (l .loop .inv) (s .pre .2) (s .pre .1) (i .loop-test .taken) refl
+    (c .in-halves .ensures)
 
 cast-t21 : tie.Need-cast-t21 Inv-loop μ-loop
 cast-t21 c = search needs
