@@ -23,13 +23,24 @@ const MODULES: [&str; 10] = [
     "zobrist",
 ];
 
+/// Where the original is to be had, and what to do with it.
+const HOW: &str = "It is renju-note/quintet at commit 8219b71be2 (Rust, MIT; see NOTICE), and not part of \
+this repository. Get that commit, then set QUINTET_SRC to the folder that has its `src/board`:
+
+    QUINTET_SRC=/path/to/quintet cargo test -p oracle
+
+The package `renju`, which programs link, needs no original: `cargo build`, `cargo test` and `cargo doc` \
+without `-p` and without `--workspace` leave out what does.";
+
 fn main() {
     println!("cargo:rerun-if-env-changed=QUINTET_SRC");
-    let folder = source_root().join("src").join("board");
-    let Some(files) = module_files(&folder) else {
-        eprintln!("no oracle source: set QUINTET_SRC or put the original beside the repository");
-        process::exit(1);
-    };
+    let root = source_root();
+    let folder = root.join("src").join("board");
+    let files = module_files(&folder).unwrap_or_else(|missing| {
+        let shown = missing.display();
+        eprintln!("oracle: the original's source is not there: no {shown}.\n{HOW}");
+        process::exit(1)
+    });
     for file in &files {
         println!("cargo:rerun-if-changed={}", file.display());
     }
@@ -48,12 +59,11 @@ fn source_root() -> PathBuf {
     }
 }
 
-/// The full path of every module's file, or nothing if one is missing.
-fn module_files(folder: &Path) -> Option<Vec<PathBuf>> {
-    MODULES
-        .iter()
-        .map(|name| folder.join(format!("{name}.rs")).canonicalize().ok())
-        .collect()
+/// The full path of every module's file, or the first that is missing.
+fn module_files(folder: &Path) -> Result<Vec<PathBuf>, PathBuf> {
+    let paths = MODULES.iter().map(|name| folder.join(format!("{name}.rs")));
+    let whole = paths.map(|path| path.canonicalize().map_err(|_| path));
+    whole.collect()
 }
 
 /// One `pub mod` for each file, each with the path of the file.

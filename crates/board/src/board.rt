@@ -2,9 +2,9 @@
 // stones each side has.
 use super::answer::BoardAnswer;
 use super::answer::StartsAnswer;
+use super::count::count_on;
 use super::count::moved_count;
 use super::count::refusal_on;
-use super::count::stones_on;
 use cells::CellsAnswer;
 use cells::cells_refusal;
 use cells::moves_cells;
@@ -56,8 +56,8 @@ impl Board {
     pub fn from_lines(lines: [u16; 144]) -> Board
         ensures { λ r. ⌜ r ≡ boardFrom lines ⌝ }
     {
-        let blacks = stones_on(&lines, Player::Black);
-        let whites = stones_on(&lines, Player::White);
+        let blacks = count_on(&lines, Player::Black);
+        let whites = count_on(&lines, Player::White);
         Board {
             lines,
             blacks,

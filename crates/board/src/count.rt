@@ -10,7 +10,7 @@ ghost use Rattle.rules.specs.Bit.{bit, countOf};
 ghost use Rattle.board.specs.Boards.{boardWith, stonesShown, oneMore, movedCount, boardRefusal};
 
 // How many of the 225 points show the player's stone, column by column.
-pub(crate) fn stones_on(lines: &[u16; 144], player: Player) -> u8
+pub(crate) fn count_on(lines: &[u16; 144], player: Player) -> u8
     ensures { λ r. ⌜ r ≡ stonesShown player (now (lines .entry)) ⌝ }
 {
     let mut n = 0u8;
@@ -63,8 +63,8 @@ pub fn refusal_on(lines: &[u16; 144], blacks: u8, whites: u8) -> u8
     ensures { λ r. ⌜ r ≡ boardRefusal (boardWith (now (lines .entry)) blacks whites) ⌝ }
 {
     let unsound = lines_refusal(lines);
-    let black_stones = stones_on(lines, Player::Black);
-    let white_stones = stones_on(lines, Player::White);
+    let black_stones = count_on(lines, Player::Black);
+    let white_stones = count_on(lines, Player::White);
     first(
         unsound,
         unless((blacks == black_stones) & (whites == white_stones), 9),

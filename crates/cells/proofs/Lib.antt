@@ -8,5 +8,7 @@ pub mod Filled
 pub mod Kept
 -- any sequence of calls acts as on a plain map
 pub mod Mapped
+-- a turned board, column by column
+pub mod Stepped
 -- stones counted: one cell changed, the eight views, all 225 points
 pub mod Counts

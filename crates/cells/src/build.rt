@@ -1,10 +1,7 @@
-// Cells built from moves and from stones, and the cells of a turned board.
+// Cells built from moves and from stones.
 use super::answer::CellsAnswer;
 use super::change::set_value;
-use super::change::value_at;
 use super::refusal::codes_refusal;
-use point::turned;
-use point::undone;
 use rules::Player;
 use rules::first;
 ghost use mathlib.Core.Path.{_≡_};
@@ -12,7 +9,6 @@ ghost use mathlib.Core.Bool.{cond};
 ghost use Rattle.rules.specs.Numbers.{opponentOf};
 ghost use Rattle.rules.specs.Refusals.{first};
 ghost use Rattle.rules.specs.Grid.{play};
-ghost use Rattle.rules.specs.Views.{turnCells};
 ghost use Rattle.cells.specs.Cells.{puts, codesRefusal, movesCells, stonesCells};
 ghost use Rattle.cells.specs.Answers.{cellsAnswer};
 
@@ -53,18 +49,4 @@ fn next_player(player: Player, alternate: bool) -> Player
     ensures { λ r. ⌜ r ≡ cond alternate (opponentOf player) player ⌝ }
 {
     if alternate { player.opponent() } else { player }
-}
-
-// The cells of the board in a view, one over 7 taken for 7: at each point what stood where the view came from.
-pub fn turned_cells(cells: &[u8], view: u8) -> [u8; 225]
-    ensures { λ r. ⌜ r ≡ turnCells view (now (cells .entry)) ⌝ }
-{
-    let back = undone(view);
-    let mut turned_to = [0u8; 225];
-    let mut p = 0u8;
-    while p < 225 {
-        turned_to[p as usize] = value_at(cells, turned(p, back) as usize);
-        p += 1;
-    }
-    turned_to
 }

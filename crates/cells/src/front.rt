@@ -1,10 +1,10 @@
 // The fronts: each tests what it is given, in section 2's order, collects its list, and hands it out.
-use super::build::turned_cells;
 use super::codes::neighbor_points;
 use super::codes::points_with;
 use super::refusal::cells_neighbors_refusal;
 use super::refusal::cells_refusal;
 use super::refusal::cells_stones_refusal;
+use super::turn::turned_cells;
 use lent::write_out;
 use point::view_refusal;
 use rules::CountAnswer;

@@ -7,11 +7,11 @@ mod codes;
 mod front;
 mod refusal;
 mod stones;
+mod turn;
 
 pub use answer::CellsAnswer;
 pub use build::moves_cells;
 pub use build::stones_cells;
-pub use build::turned_cells;
 pub use change::put_of;
 pub use change::remove_of;
 pub use change::value_at;
@@ -27,3 +27,4 @@ pub use refusal::cells_refusal_at;
 pub use refusal::codes_refusal;
 pub use refusal::moves_refusal;
 pub use stones::counts_of;
+pub use turn::turned_cells;

@@ -123,7 +123,7 @@ unfoldable pub hotCell : ℕ → Stones → Stones → ℕ → Bool
 hotCell size own other i =
     eyesOf size own other (bit (maskOf 16 (λ j. holds size own other 3 j || holds size own other 4 j))) (bit 31) i
 
--- the first marked point from a code on that is empty, or 225
+-- from a code up to r, which is at most 225, no marked point is empty: none to try is passed over
 pub record NextTry (m cells : List ℕ) (from r : ℕ) : Type 0 where
   pub le : r ≤ 225
   pub ge : from ≤ 225 → from ≤ r

@@ -1,18 +1,20 @@
 // A hint: reads a board's text on standard input and writes a line of fours with which one side, to move, wins against every reply, as points
 // (`D8,E8,I4`), or `no line`. Black's, or with the argument `--white` White's; `--limit N` allows N attacks, 1 to 6, else 6. A refusal is
 // `refused N` on standard error, and nothing on standard output.
-use check::same;
 use display::LengthAnswer;
 use display::write_points;
 use hint::win_plan_of;
 use lent::head;
 use libc::STDERR_FILENO;
 use libc::STDIN_FILENO;
-use libc::STDOUT_FILENO;
+use program::is_cut_short;
+use program::is_word;
+use program::refuse;
+use program::say;
+use program::text_room;
+use program::write;
 use rules::CountAnswer;
 use text::read_cells;
-ghost use mathlib.Core.Path.{_≡_};
-ghost use lib.ListN.{length};
 
 // What the arguments ask for; a colour of 0 is wrong usage.
 struct Asked {
@@ -64,12 +66,6 @@ fn limit_asked(colour: u8, two: bool, first: usize, second: usize) -> Asked {
     }
 }
 
-fn is_word(number: usize, wanted: &[u8]) -> bool {
-    let mut word = [0u8; 8];
-    let n = os::arg(number, &mut word);
-    same(head(&word, n), wanted)
-}
-
 // The number of a word of one digit; 0, which is no limit, for any other.
 fn digit_word(number: usize) -> u8 {
     let mut word = [0u8; 2];
@@ -87,30 +83,16 @@ fn digit_word(number: usize) -> u8 {
     first - 48
 }
 
-// A byte more than a text may have: enough to see that one is too long. The `ensures` gives the length, which lending the array as a slice
-// needs.
-fn room() -> [u8; 4097]
-    ensures { λ r. ⌜ 4097 ≡ length r ⌝ }
-{
-    [0; 4097]
-}
-
-// Whether standard input is at its end. Reading stops there, and also where it fails.
-fn is_at_end() -> bool {
-    let mut byte = [0u8; 1];
-    libc::read(STDIN_FILENO, &mut byte) == 0
-}
-
 fn hint(colour: u8, limit: u8) {
-    let mut text = room();
+    let mut text = text_room();
     let n = io::read_full(STDIN_FILENO, &mut text);
-    if n < 4097 && !is_at_end() {
+    if is_cut_short(n, 4097) {
         say(b"hints: standard input cannot be read\n");
         return;
     }
     let read = read_cells(head(&text, n));
     if read.refused != 0 {
-        refuse(read.refused);
+        refuse(STDERR_FILENO, read.refused);
         return;
     }
     let cells = read.cells;
@@ -120,40 +102,27 @@ fn hint(colour: u8, limit: u8) {
             write_line(head(&line, count as usize));
         }
         CountAnswer::Refused(number) => {
-            refuse(number);
+            refuse(STDERR_FILENO, number);
         }
     }
 }
 
 fn write_line(codes: &[u8]) {
     if codes.len() == 0 {
-        write(b"no line\n");
+        give(b"no line\n");
         return;
     }
     let mut out = [0u8; 64];
     match write_points(codes, &mut out) {
         LengthAnswer::Is(n) => {
-            write(head(&out, n));
-            write(b"\n");
+            give(head(&out, n));
+            give(b"\n");
         }
         // 13, which does not arise: eleven points are at most 43 bytes
         LengthAnswer::Refused(_) => {}
     }
 }
 
-fn refuse(number: u8) {
-    say(b"refused ");
-    io::print_decimal(STDERR_FILENO, number as u64);
-    say(b"\n");
-}
-
-fn write(bytes: &[u8]) {
-    if !io::write_all(STDOUT_FILENO, bytes) {
-        say(b"hints: standard output cannot be written\n");
-    }
-}
-
-// On standard error.
-fn say(words: &[u8]) {
-    io::write_all(STDERR_FILENO, words);
+fn give(bytes: &[u8]) {
+    write(bytes, b"hints: standard output cannot be written\n");
 }

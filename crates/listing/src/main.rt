@@ -3,30 +3,30 @@
 use display::LengthAnswer;
 use lent::head;
 use libc::STDIN_FILENO;
-use libc::STDOUT_FILENO;
+use program::is_cut_short;
+use program::say;
+use program::text_room;
+use program::write;
 use report::write_listing;
-ghost use mathlib.Core.Path.{_≡_};
-ghost use lib.ListN.{length};
 
 fn main() {
-    let mut text = room();
+    let mut text = text_room();
     let n = io::read_full(STDIN_FILENO, &mut text);
+    if is_cut_short(n, 4097) {
+        say(b"listing: standard input cannot be read\n");
+        return;
+    }
     list(&text[..n]);
-}
-
-// A byte more than a text may have: enough to see that one is too long. The `ensures` gives the length, which lending the array as a slice
-// needs.
-fn room() -> [u8; 4097]
-    ensures { λ r. ⌜ 4097 ≡ length r ⌝ }
-{
-    [0; 4097]
 }
 
 fn list(text: &[u8]) {
     let mut out = [0u8; 4096];
     match write_listing(text, &mut out) {
         LengthAnswer::Is(n) => {
-            io::write_all(STDOUT_FILENO, head(&out, n));
+            write(
+                head(&out, n),
+                b"listing: standard output cannot be written\n",
+            );
         }
         // 13, which does not arise: no listing is longer than 3,840 bytes
         LengthAnswer::Refused(_) => {}

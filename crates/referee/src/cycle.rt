@@ -127,7 +127,8 @@ fn open_asked(lines: &mut [u16; 144], table: &[u16; 900], code: u8, seen: Known)
 }
 
 // "a Three is real when its eye completes no black five on that board and the strict verdict there is none, at every level of nesting"
-// (document 02, No. 6). One look at the rows through the eye tells the five and, handed on, the verdict. An eye is empty.
+// (document 02, No. 6). The rows through the eye tell the five and, handed on, the verdict. An eye is empty. (`open_asked` asks only of
+// eyes that complete none; the contract is of every Three.)
 fn is_real(lines: &mut [u16; 144], table: &[u16; 900], code: u8, three: u8) -> bool
     requires { ⌜ Sound (now lines) × (code < 225) × (three < 64)
         × T (rowsThrough Black Three (cellsOf (now lines)) code (three / 16) (three % 16)) × (now table ≡ addresses) ⌝ }

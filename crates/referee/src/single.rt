@@ -28,7 +28,7 @@ ghost use Rattle.grid.specs.Lines.{linesOf};
 ghost use Rattle.cells.specs.Cells.{Cells};
 
 // The masks of one line.
-struct LineStones {
+struct LineCells {
     blacks: u16,
     whites: u16,
 }
@@ -95,10 +95,10 @@ pub(crate) fn rows_of(cells: &[u8], code: u8) -> Rows
     requires { ⌜ Cells (now cells) × (code < 225) ⌝ }
     ensures { λ r. ⌜ RowsAre (blackRows (now (cells .entry)) code) r ⌝ }
 {
-    let v = stones_along(cells, 0, code);
-    let h = stones_along(cells, 1, code);
-    let a = stones_along(cells, 2, code);
-    let d = stones_along(cells, 3, code);
+    let v = read_along(cells, 0, code);
+    let h = read_along(cells, 1, code);
+    let a = read_along(cells, 2, code);
+    let d = read_along(cells, 3, code);
     rows_near(
         [v.blacks, h.blacks, a.blacks, d.blacks],
         [v.whites, h.whites, a.whites, d.whites],
@@ -109,7 +109,7 @@ pub(crate) fn rows_of(cells: &[u8], code: u8) -> Rows
 
 // The stones on the line through a point in one direction, cell by cell from the last one back: each moves on what was read before it.
 // Black stones are in the low half of one number, white ones in the high half.
-fn stones_along(cells: &[u8], d: u8, code: u8) -> LineStones
+fn read_along(cells: &[u8], d: u8, code: u8) -> LineCells
     requires { ⌜ Cells (now cells) × (code < 225) × (d < 4) ⌝ }
     ensures { λ r. ⌜ (r .blacks ≡ maskOf 16 (stoneAt Black (now (cells .entry)) d (lineNo d code)))
         × (r .whites ≡ maskOf 16 (stoneAt White (now (cells .entry)) d (lineNo d code))) ⌝ }
@@ -125,7 +125,7 @@ fn stones_along(cells: &[u8], d: u8, code: u8) -> LineStones
         both = both * 2 + in_halves(cells[p]);
         j -= 1;
     }
-    LineStones {
+    LineCells {
         blacks: (both % 65536) as u16,
         whites: (both / 65536) as u16,
     }

@@ -10,7 +10,7 @@ pub mod Equal
 pub mod Paired
 -- a game's report handed out, byte by byte
 pub mod Handed
--- cells turned by one view and then by another, and turned back, of the calls
+-- cells turned by one view and then by another, turned back, and their canonical form, of the calls
 pub mod Turned
 -- the number of a test
 pub mod Hinted

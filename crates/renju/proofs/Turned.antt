@@ -1,6 +1,6 @@
--- Cells turned by one view and then by another, and turned back (document 02, No. 9), of the calls: the bytes that one call left, handed to the
--- next. `f.Post κs asked r after` is what the contract of f ensures: asked this, it may answer r and leave its parameters as `after` says.
--- Assumes nothing.
+-- Cells turned by one view and then by another, and turned back (document 02, No. 9), and the canonical form of both, of the calls: the
+-- bytes that one call left, handed to the next. `f.Post κs asked r after` is what the contract of f ensures: asked this, it may answer r
+-- and leave its parameters as `after` says. Assumes nothing.
 use mathlib.Core.Path.{_≡_, ap, ap₂, sym, _∙_}
 use mathlib.Core.Bool.{true, false}
 use mathlib.Core.Logic.{_⊎_, inl, inr}
@@ -15,16 +15,22 @@ use contract.Lifetimes.{Lfts}
 use denote.Ref.{RefT, now}
 use Rattle.rules.specs.Refusals.{noRoom, unless, first, viewRefusal}
 use Rattle.rules.specs.Views.{turnCells, undo, thenView}
+use Rattle.rules.specs.Answers.{numberAnswer}
+use Rattle.rules.specs.declared.answer.NumberAnswer.the-variants as number
 use Rattle.rules.proofs.Logic.{decide}
 use Rattle.rules.proofs.Refusals.{first-none, none-first}
 use Rattle.rules.proofs.Turns.{undo-lt}
-use Rattle.rules.proofs.Composed.{then-lt, returned, cells-turn}
+use Rattle.rules.proofs.Composed.{returned, cells-turn}
 use Rattle.lent.specs.Lists.{fits, laid, listRefusal, listOut}
 use Rattle.point.proofs.Refused.{view-in}
-use Rattle.point.proofs.Followed.{Gave, view-pass}
+use Rattle.point.proofs.Followed.{Gave, Followed, view-pass}
+use Rattle.point.proofs.Followed as point-then
 use Rattle.cells.specs.Cells.{Cells, cellsRefusal}
 use Rattle.cells.proofs.Given.{cells-in, cells-pass, turn-ok, length-turned}
+use Rattle.canonical.specs.Canonical.{canonicalCells}
+use Rattle.canonical.proofs.Eight.{canonical-same}
 use Rattle.renju.specs.Answers.{word, listWord}
+use Rattle.renju.proofs.canonical_form.renju_canonical.Reads as renju-canonical
 use Rattle.renju.proofs.changes.renju_turn.Reads as renju-turn
 use Rattle.renju.proofs.views.renju_view_then.Reads as renju-view-then
 use Rattle.renju.proofs.views.renju_view_back.Reads as renju-view-back
@@ -52,18 +58,16 @@ given-list refused out a r out′ small h =
       ap (take (length a)) (h .1 ∙ rw none) ∙ take-at a (drop (length a) out) (length a) (omega arith),
     )
 
--- ---- views that were not refused
+-- ---- views that were not refused: what `point` says of its own answer
 
-record Pair (v w u : ℕ) : Type 0 where
-  is : u ≡ thenView v w
-  two : w < 8
-  whole : u < 8
+answered : (refused n u : ℕ) → (refused ≡ 0) × (u ≡ n) → number.Is u ≡ numberAnswer refused n
+unfolding numberAnswer
+answered refused n u (none, is) = rw (none, is)
 
-then-given : (κ : Lfts 0) (v w u : ℕ) → v < 8 → u < 65536 → Gave (renju-view-then.Post κ (v, (w, tt))) u → Pair v w u
-then-given κ v w u hv small (s, e) =
-    let (none, is) = given-word (first (viewRefusal v) (viewRefusal w)) (thenView v w) u small e in
-    let two = view-in w (first-none (viewRefusal v) (viewRefusal w) none .1) in
-    record { is = is; two = two; whole = omega (arith, is, then-lt v w hv two) }
+then-given : (κ : Lfts 0) (v w u : ℕ) → u < 65536 → Gave (renju-view-then.Post κ (v, (w, tt))) u → Followed v w u
+then-given κ v w u small (s, e) =
+    let refused = first (viewRefusal v) (viewRefusal w) in
+    point-then.then-given κ v w u (s, answered refused (thenView v w) u (given-word refused (thenView v w) u small e))
 
 -- ---- the first call gave the turned cells, which the next is handed: a board's cells are told by 225 bytes
 
@@ -95,7 +99,7 @@ module _ (κs : Lfts 2) (κ : Lfts 0) (cells bytes out out′ : RefT (List ℕ))
       → (n ≡ m) × (now (two .0 .1 .1 .0) ≡ now (whole .0 .1 .1 .0))
   cells-then w u n m tiny then (s, two) (t, whole) =
       let (ok, hv, is) = passed in
-      let f = then-given κ v w u hv tiny then in
+      let f = then-given κ v w u tiny then in
       let same : turnCells w (now bytes) ≡ turnCells u c =
       ap (turnCells w) is ∙ cells-turn .after v w c hv (f .two) (ok .long) ∙ ap (λ (x : ℕ). turnCells x c) (sym (f .is)) in
       let ok′ : Cells (now bytes) = rw is (turn-ok v c ok) in
@@ -116,3 +120,12 @@ module _ (κs : Lfts 2) (κ : Lfts 0) (cells bytes out out′ : RefT (List ℕ))
       let ok′ : Cells (now bytes) = rw is (turn-ok v c ok) in
       let a = turned-list (now bytes) (now out′) u ok′ (omega (arith, b, undo-lt v hv)) two in
       (a .0 ∙ ap (listWord 1 0 (now out′)) same, a .1 ∙ ap (listOut 0 (now out′)) same)
+
+  -- Turned, they have the canonical form that they had: the same bytes. (The views differ.)
+  pub cells-canonical : (n m : ℕ) (two : Gave (renju-canonical.Post κs (bytes, (out′, tt))) n)
+      (one : Gave (renju-canonical.Post κs (cells, (out′, tt))) m) → now (two .0 .1 .0) ≡ now (one .0 .1 .0)
+  cells-canonical n m (s, two) (t, one) =
+      let (ok, hv, is) = passed in
+      let ok′ : Cells (now bytes) = rw is (turn-ok v c ok) in
+      let same : canonicalCells (now bytes) ≡ canonicalCells c = ap canonicalCells is ∙ canonical-same c v (ok .long) hv in
+      two .1 ∙ ap₂ (λ (x : ℕ) (y : List ℕ). listOut x (now out′) y) (cells-pass (now bytes) ok′ ∙ sym (cells-pass c ok)) same ∙ sym (one .1)

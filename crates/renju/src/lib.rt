@@ -1,6 +1,7 @@
 // The host interface: the referee for callers in Rust and C, over numbers and byte slices. Each function answers one u32: the refusal
 // in the high half (0: none), the answer in the low.
 mod answer;
+mod canonical_form;
 mod changes;
 mod counted;
 mod depths;
@@ -16,8 +17,10 @@ mod sgf_texts;
 mod tagged;
 mod texts;
 mod verdicts;
+mod version;
 mod views;
 
+pub use canonical_form::renju_canonical;
 pub use changes::renju_put;
 pub use changes::renju_remove;
 pub use changes::renju_turn;
@@ -54,9 +57,11 @@ pub use tagged::renju_from_tagged;
 pub use tagged::renju_tagged_view;
 pub use tagged::renju_to_tagged;
 pub use texts::renju_read;
+pub use texts::renju_read_point;
 pub use texts::renju_to_pretty_string;
 pub use texts::renju_to_string;
 pub use verdicts::renju_forbidden;
 pub use verdicts::renju_forbidden_strict;
+pub use version::renju_interface_2;
 pub use views::renju_view_back;
 pub use views::renju_view_then;

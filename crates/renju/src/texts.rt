@@ -1,16 +1,27 @@
-// A text read into 225 cell bytes, and cell bytes written as a diagram.
+// A text read into a point's code or into 225 cell bytes, and cell bytes written as a diagram.
+use super::answer::number_word;
 use super::answer::word;
 use display::LengthAnswer;
 use display::write_diagram_of;
 use display::write_numbered_of;
 use lent::write_out;
 use text::read_cells;
+use text::read_point;
 ghost use mathlib.Core.Path.{_≡_};
 ghost use Rattle.lent.specs.Lists.{listOut};
+ghost use Rattle.text.specs.Points.{pointTextRefusal, itemCode};
 ghost use Rattle.text.specs.Reading.{readRefusal, readCells};
 ghost use Rattle.display.specs.Texts.{diagramOf, numberedOf};
-ghost use Rattle.renju.specs.Answers.{listWord, lengthWord};
+ghost use Rattle.renju.specs.Answers.{word, listWord, lengthWord};
 ghost use Rattle.cells.specs.Cells.{cellsRefusal};
+
+// The code of the point that a text names, alone in it.
+#[no_mangle]
+pub extern "C" fn renju_read_point(text: &[u8]) -> u32
+    ensures { λ r. ⌜ r ≡ word (pointTextRefusal (now (text .entry))) (itemCode (now (text .entry))) ⌝ }
+{
+    number_word(read_point(text))
+}
 
 // The cells that a text says, stones or moves, to the front of `cells`.
 #[no_mangle]

@@ -3,16 +3,16 @@ use super::answer::number_word;
 use point::view_back;
 use point::view_then;
 ghost use mathlib.Core.Path.{_≡_};
-ghost use Rattle.rules.specs.Refusals.{first, viewRefusal};
+ghost use Rattle.rules.specs.Refusals.{first as firstRefusal, viewRefusal};
 ghost use Rattle.rules.specs.Views.{undo, thenView};
 ghost use Rattle.renju.specs.Answers.{word};
 
-// The view that equals a view followed by the next one.
+// The view that equals the first followed by the second.
 #[no_mangle]
-pub extern "C" fn renju_view_then(view: u8, next: u8) -> u32
-    ensures { λ r. ⌜ r ≡ word (first (viewRefusal view) (viewRefusal next)) (thenView view next) ⌝ }
+pub extern "C" fn renju_view_then(first: u8, second: u8) -> u32
+    ensures { λ r. ⌜ r ≡ word (firstRefusal (viewRefusal first) (viewRefusal second)) (thenView first second) ⌝ }
 {
-    number_word(view_then(view, next))
+    number_word(view_then(first, second))
 }
 
 // The view that takes a view back.

@@ -1,5 +1,11 @@
 // Questions about cells, asked of the host functions: each answers a word, and writes its list or its cells to a lent buffer. A question is
 // the letter of a record that holds a list, and its fields; or `v`, and the number of a view.
+use lent::head;
+use records::answer;
+use records::byte_at;
+use records::holds;
+use records::refusal_word;
+use records::with_cell;
 use renju::renju_empty_points;
 use renju::renju_forbidden_points;
 use renju::renju_four_eyes_on;
@@ -8,12 +14,6 @@ use renju::renju_rows;
 use renju::renju_rows_on;
 use renju::renju_stones;
 use renju::renju_turn;
-use lent::head;
-use records::answer;
-use records::byte_at;
-use records::holds;
-use records::refusal_word;
-use records::with_cell;
 ghost use Prim.Native.Nat.{_≤_};
 
 // The answer is asked into a buffer with room to spare, into one of just its length, and into one that is a byte short.

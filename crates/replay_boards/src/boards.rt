@@ -3,12 +3,12 @@ use super::changes::replay_changes;
 use super::views::replay_views;
 use board::Board;
 use board::BoardAnswer;
-use renju::renju_stones;
 use lent::head;
 use records::answer;
 use records::holds;
 use records::number_word;
 use records::stone_word;
+use renju::renju_stones;
 
 // `b`: all that is asked of the board must be as its cells say.
 pub(crate) fn replay_board(cells: [u8; 225]) -> u32 {

@@ -1,10 +1,10 @@
 // Cells changed where they stand: stones put and removed.
-use renju::renju_put;
-use renju::renju_remove;
 use records::answer;
 use records::holds;
 use records::refusal_word;
 use records::with_cell;
+use renju::renju_put;
+use renju::renju_remove;
 ghost use Prim.Native.Nat.{_≤_};
 
 // Changes at every eighth point, and past the board.

@@ -8,8 +8,6 @@ use super::fields::line_of;
 use super::fields::mask;
 use super::fields::mask_of;
 use super::fields::stone_of;
-use renju::renju_line_eyes;
-use renju::renju_line_starts;
 use line::Line;
 use line::LineAnswer;
 use records::answer;
@@ -17,6 +15,8 @@ use records::byte;
 use records::mask_word;
 use records::number_word;
 use records::stone_word;
+use renju::renju_line_eyes;
+use renju::renju_line_starts;
 
 // `l`: rows, eyes and bounds are recorded; the stones must be those of the record's own masks.
 pub(crate) fn replay_line(record: &[u8]) -> u32 {

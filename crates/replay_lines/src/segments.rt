@@ -2,7 +2,6 @@
 use super::fields::colour_of;
 use super::fields::kind_of;
 use super::fields::line_of;
-use renju::renju_line_starts;
 use line::Line;
 use line::SegmentAnswer;
 use masks::bit_at;
@@ -10,6 +9,7 @@ use records::answer;
 use records::byte;
 use records::number_word;
 use records::test_word;
+use renju::renju_line_starts;
 use rules::ScoreAnswer;
 use segment::Before;
 use segment::Segment;

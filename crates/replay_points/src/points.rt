@@ -6,7 +6,6 @@ use super::answers::offset_word;
 use super::answers::place_is;
 use super::answers::point_word;
 use super::answers::word_at;
-use renju::renju_turn_point;
 use point::Index;
 use point::Point;
 use point::PointAnswer;
@@ -18,6 +17,7 @@ use records::answer;
 use records::byte;
 use records::number_word;
 use records::refusal_word;
+use renju::renju_turn_point;
 
 // `a`: the line through a point, the point's cell, the line's last cell and its key are recorded.
 pub(crate) fn replay_address(record: &[u8]) -> u32 {

@@ -5,9 +5,6 @@ use super::fields::text_in;
 use super::words::is_told;
 use super::writing::ask_board;
 use super::writing::replay_room;
-use renju::renju_convert;
-use renju::renju_read;
-use renju::renju_read_diagram;
 use lent::head;
 use lent::tail;
 use records::answer;
@@ -17,6 +14,9 @@ use records::bytes_in;
 use records::bytes_of;
 use records::cells_of;
 use records::with_cell;
+use renju::renju_convert;
+use renju::renju_read;
+use renju::renju_read_diagram;
 ghost use Prim.Native.Nat.{_≤_};
 
 // `t`, `T` and `M`, and `c` of a diagram: the board or the refusal is recorded. It is asked into a buffer with room to spare, into one of just a board's length, and

@@ -10,8 +10,6 @@ use display::write_line;
 use display::write_point;
 use display::write_points;
 use display::write_segment;
-use renju::renju_to_pretty_string;
-use renju::renju_to_string;
 use lent::head;
 use lent::tail;
 use records::answer;
@@ -20,6 +18,8 @@ use records::byte_at;
 use records::bytes_in;
 use records::bytes_of;
 use records::cells_of;
+use renju::renju_to_pretty_string;
+use renju::renju_to_string;
 ghost use Prim.Native.Nat.{_≤_};
 
 // Where the record has an empty text there is no shorter buffer.

@@ -32,10 +32,8 @@ pub mod Changes
 pub mod Rows
 -- four start masks name their starts; section 5's tests by them are those of the cells
 pub mod Starts
--- starts by their numbers: the first from a number on; more than one is a first one and one two or more on
+-- starts by their numbers: the first from a number on; some start, and more than one
 pub mod Numbered
--- the stones of the line through a point, read off the cells one by one
-pub mod Along
 -- a Three has exactly one eye, and is real where that is good: no five, and the strict verdict none
 pub mod Eye
 -- that eye is the first of its four cells without a black stone; one look there tells whether the Three is real
@@ -46,7 +44,7 @@ pub mod Grown
 pub mod Fuel
 -- the verdicts by the cell, by the five and by the tests of section 5; a double three by the board with the stone
 pub mod Verdicts
--- the search for real Threes from start to start finds the first, and misses none
+-- the starts that four start masks name are the Threes through a point
 pub mod Search
 -- the forbidden list names each forbidden point once with its kind, in code order, and nothing else; its length
 pub mod Listed

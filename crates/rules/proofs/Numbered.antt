@@ -1,17 +1,17 @@
--- Starts by their numbers: the first one from a number on, and more than one, which is a first one and one more that is two or more numbers
--- on. Starts of two lines are that far apart, since none is at a line's last place. Assumes nothing.
+-- Starts by their numbers: the first one from a number on; some start; and more than one, which is two that are two or more numbers apart,
+-- since starts of two lines are never nearer: none is at a line's last place. Assumes nothing.
 use mathlib.Core.Path.{_≡_, refl, sym, ap, ap₂, subst, _∙_}
-use mathlib.Core.Bool.{Bool, true, false, _&&_, cond}
+use mathlib.Core.Bool.{Bool, true, false, cond}
 use mathlib.Core.Logic.{_⊎_, inl, inr}
 use Prim.Native.Nat.{ℕ, zero, suc, _+_, _-_, _*_, _/_, _%_, _≤_, _<_}
 use native.Mathlib.Nat.{lt-of-not-le, le-of-suc-le-suc}
 use native.Mathlib.Omega.{arith}
-use lib.Dec.{T, eqb, leb, ltb, ltb→lt, lt→ltb}
+use lib.Dec.{T, eqb, leb, ltb}
 use borrow.Author.Tests.{eqb-true, eqb-false, leb-true, leb-false, ltb-true, ltb-false}
 use Rattle.rules.specs.Tools.{anyBelow}
 use Rattle.rules.specs.Grid.{Starts, numbered, firstOf, nextFrom}
 use Rattle.rules.specs.Forbidden.{someRow, apart, moreThanOne}
-use Rattle.rules.proofs.Logic.{T-true, true-T, no-true, decide, both-ways, and-left, and-right, and-intro, any-elim, any-intro}
+use Rattle.rules.proofs.Logic.{T-true, true-T, no-true, both-ways, any-elim, any-intro}
 use Rattle.rules.proofs.More.{TwoLines, TwoApart, someRow-elim, someRow-intro, apart-elim, apart-intro}
 use Rattle.rules.proofs.More.{more-elim, more-lines, more-apart}
 
@@ -118,74 +118,10 @@ next-end s n none = go (leb 64 n) refl
         no-true (sym (none (nextFrom s n) g h) ∙ T-true (next-on s n h)))) in
         omega arith
 
--- numbers that do not pass may be passed over
-pub next-skip : (s : ℕ → Bool) (n m : ℕ) → n ≤ m → m ≤ 64
-    → ((j : ℕ) → n ≤ j → j < m → s j ≡ false) → nextFrom s n ≡ nextFrom s m
-next-skip s n m h top none = go (decide (ltb (nextFrom s m) 64)) (decide (ltb (nextFrom s n) 64))
-  where
-    rest : (j : ℕ) → n ≤ j → j < nextFrom s m → s j ≡ false
-    rest j a b = split (decide (ltb j m))
-      where
-        split : (ltb j m ≡ true) ⊎ (ltb j m ≡ false) → s j ≡ false
-        split (inl e) = none j a (ltb-true j m e)
-        split (inr e) = next-none s m j (ltb-false j m e) b
-
-    go : (ltb (nextFrom s m) 64 ≡ true) ⊎ (ltb (nextFrom s m) 64 ≡ false)
-        → (ltb (nextFrom s n) 64 ≡ true) ⊎ (ltb (nextFrom s n) 64 ≡ false) → nextFrom s n ≡ nextFrom s m
-    go (inl e) z =
-        let l = ltb-true (nextFrom s m) 64 e in
-        let g = next-ge s m top in
-        next-is s n (nextFrom s m) (omega arith) l (next-on s m l) rest
-    go (inr e) (inl z) =
-        let l = ltb-true (nextFrom s n) 64 z in
-        let k = ltb-false (nextFrom s m) 64 e in
-        absurd (no-true (sym (rest (nextFrom s n) (next-ge s n (omega arith)) (omega arith)) ∙ T-true (next-on s n l)))
-    go (inr e) (inr z) =
-        let a = ltb-false (nextFrom s m) 64 e in
-        let b = ltb-false (nextFrom s n) 64 z in
-        let c = next-le s m in
-        let d = next-le s n in
-        omega arith
-
 -- two tests that agree on the numbers below 64
 pub next-same : (s s′ : ℕ → Bool) (n : ℕ) → ((k : ℕ) → k < 64 → s k ≡ s′ k) → nextFrom s n ≡ nextFrom s′ n
 unfolding nextFrom
 next-same s s′ n h = first-same s s′ h (64 - n) n (omega arith)
-
--- ---- two that are two or more apart
-
--- asked in order: a first one, and one more two or more numbers on
-pub apart-first : (s : ℕ → Bool) → apart 64 s ≡ (ltb (nextFrom s 0) 64 && ltb (nextFrom s (nextFrom s 0 + 2)) 64)
-apart-first s = both-ways (apart 64 s) (ltb x 64 && ltb y 64) to fro
-  where
-    x : ℕ
-    x = nextFrom s 0
-
-    y : ℕ
-    y = nextFrom s (x + 2)
-
-    to : T (apart 64 s) → T (ltb x 64 && ltb y 64)
-    to t =
-        let w = apart-elim 64 s t in
-        let far = w .far in
-        let lt = w .k-lt in
-        let a : x ≤ w .j = next-first s 0 (w .j) (omega arith) (w .here) in
-        let b : y ≤ w .k = next-first s (x + 2) (w .k) (omega arith) (w .there) in
-        and-intro (ltb x 64) (ltb y 64) (lt→ltb x 64 (omega arith)) (lt→ltb y 64 (omega arith))
-
-    fro : T (ltb x 64 && ltb y 64) → T (apart 64 s)
-    fro t =
-        let a : x < 64 = ltb→lt x 64 (and-left (ltb x 64) (ltb y 64) t) in
-        let b : y < 64 = ltb→lt y 64 (and-right (ltb x 64) (ltb y 64) t) in
-        let c : x + 2 ≤ 64 = le-of-suc-le-suc (lt-of-not-le (λ h. let e : y ≡ 64 = next-past s (x + 2) (omega arith) in omega arith)) in
-        apart-intro 64 s (record {
-          j = x;
-          k = y;
-          far = next-ge s (x + 2) c;
-          k-lt = b;
-          here = next-on s 0 a;
-          there = next-on s (x + 2) b;
-        })
 
 -- ---- one start, and more than one
 
@@ -279,7 +215,3 @@ module _ (s : Starts) where
 
     pub more-numbered : apart 64 (numbered s) ≡ moreThanOne s
     more-numbered = both-ways (apart 64 (numbered s)) (moreThanOne s) more-to more-fro
-
-    -- asked in order: a first one, and one more that is two or more numbers on
-    pub more-first : moreThanOne s ≡ (ltb (nextFrom (numbered s) 0) 64 && ltb (nextFrom (numbered s) (nextFrom (numbered s) 0 + 2)) 64)
-    more-first = sym more-numbered ∙ apart-first (numbered s)

@@ -1,10 +1,13 @@
 // Stored games from one form to the other: a game on standard input, one code byte a move, is written to standard output in tagged form;
 // with the argument `--back` a record is taken back. A refusal is `refused N` on standard error, and nothing on standard output.
-use check::same;
 use lent::head;
 use libc::STDERR_FILENO;
 use libc::STDIN_FILENO;
-use libc::STDOUT_FILENO;
+use program::is_cut_short;
+use program::is_word;
+use program::refuse;
+use program::say;
+use program::write;
 use rules::CountAnswer;
 use stored::from_tagged;
 use stored::old_to_tagged;
@@ -18,18 +21,11 @@ fn main() {
         convert(false);
         return;
     }
-    if words == 2 && asks_back() {
+    if words == 2 && is_word(1, b"--back") {
         convert(true);
         return;
     }
     say(b"usage: tagged [--back]\n");
-}
-
-// Whether the argument is `--back`. A word that does not fit counts as none.
-fn asks_back() -> bool {
-    let mut word = [0u8; 8];
-    let n = os::arg(1, &mut word);
-    same(head(&word, n), b"--back")
 }
 
 // A byte more than the longest record can have whose length agrees, 7 and 65,535: what is longer is refused by its length alone, whatever
@@ -43,25 +39,22 @@ fn room() -> [u8; 65543]
 fn convert(back: bool) {
     let mut bytes = room();
     let n = io::read_full(STDIN_FILENO, &mut bytes);
-    if n < 65543 && !is_at_end() {
+    if is_cut_short(n, 65543) {
         say(b"tagged: standard input cannot be read\n");
         return;
     }
     let mut out = [0u8; 232];
     match converted(back, head(&bytes, n), &mut out) {
         CountAnswer::Is(len) => {
-            write(head(&out, len as usize));
+            write(
+                head(&out, len as usize),
+                b"tagged: standard output cannot be written\n",
+            );
         }
         CountAnswer::Refused(number) => {
-            refuse(number);
+            refuse(STDERR_FILENO, number);
         }
     }
-}
-
-// Whether standard input is at its end. Reading stops there, and also where it fails.
-fn is_at_end() -> bool {
-    let mut byte = [0u8; 1];
-    libc::read(STDIN_FILENO, &mut byte) == 0
 }
 
 fn converted(back: bool, bytes: &[u8], out: &mut [u8]) -> CountAnswer {
@@ -69,21 +62,4 @@ fn converted(back: bool, bytes: &[u8], out: &mut [u8]) -> CountAnswer {
         return from_tagged(bytes, out);
     }
     old_to_tagged(bytes, out)
-}
-
-fn write(bytes: &[u8]) {
-    if !io::write_all(STDOUT_FILENO, bytes) {
-        say(b"tagged: standard output cannot be written\n");
-    }
-}
-
-fn refuse(number: u8) {
-    say(b"refused ");
-    io::print_decimal(STDERR_FILENO, number as u64);
-    say(b"\n");
-}
-
-// On standard error.
-fn say(words: &[u8]) {
-    io::write_all(STDERR_FILENO, words);
 }

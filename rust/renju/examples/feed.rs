@@ -2,25 +2,14 @@
 //! game of 40 moves is played with two takebacks, the server sends what the client is not known to
 //! hold, and both boards are drawn at the end, with how many messages it took.
 
+use line::Dice;
 use renju::feed::{Answer, Client, Message, Server};
 use renju::{CELLS, Cells, Refusal};
 use std::process::ExitCode;
 
-/// Numbers that look like chance, the same for the same seed.
-struct Dice(u64);
-
-impl Dice {
-    fn roll(&mut self) -> u64 {
-        self.0 = self.0.wrapping_add(0x9e37_79b9_7f4a_7c15);
-        let mixed = (self.0 ^ (self.0 >> 30)).wrapping_mul(0xbf58_476d_1ce4_e5b9);
-        let mixed = (mixed ^ (mixed >> 27)).wrapping_mul(0x94d0_49bb_1331_11eb);
-        mixed ^ (mixed >> 31)
-    }
-
-    fn below(&mut self, end: usize) -> usize {
-        (self.roll() % end as u64) as usize
-    }
-}
+#[allow(dead_code)] // The table's line is another.
+#[path = "table/house/line.rs"]
+mod line;
 
 /// One way of the line. What is put on it comes off it in any order, now and then twice, now and
 /// then never. Only bytes travel.
@@ -116,7 +105,7 @@ fn play_on(server: &mut Server, dice: &mut Dice) -> Result<(), Refusal> {
 /// Plays 40 moves, with a takeback after 15 and one after 30, and goes on until the server knows
 /// that the client holds all.
 fn play(seed: u64) -> Result<Table, Refusal> {
-    let mut dice = Dice(seed);
+    let mut dice = Dice::new(seed);
     let mut table = Table {
         server: Server::new(1),
         client: Client::new(1),

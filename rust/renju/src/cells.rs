@@ -1,16 +1,20 @@
 //! A board as its 225 cells: made, read, written and changed.
 
+use crate::list::front;
+use crate::named::pad;
 use crate::raw;
-use crate::refusal::{answer, given};
+use crate::refusal::{answer, done, given};
 use crate::{CELLS, Colour, DIAGRAM, PRETTY, Point, Refusal, STONES_TEXT, View};
-use std::fmt;
-use std::str::FromStr;
+use alloc::borrow::ToOwned;
+use alloc::string::String;
+use core::fmt;
+use core::str::FromStr;
 
 /// A board: 225 cells by point, each empty, black or white.
 ///
 /// It is plain data of 225 bytes that is always sound, so no question about
 /// it can be refused for the cells' sake. It can be copied out from under a
-/// lock and asked afterwards.
+/// lock and asked afterwards. Boards are in order by their cell bytes.
 ///
 /// # Examples
 ///
@@ -27,7 +31,7 @@ use std::str::FromStr;
 /// assert_eq!(cells.verdict(h8), Verdict::None);
 /// # Ok::<(), renju::Refusal>(())
 /// ```
-#[derive(Clone, Copy, PartialEq, Eq, Hash)]
+#[derive(Clone, Copy, PartialEq, Eq, PartialOrd, Ord, Hash)]
 pub struct Cells {
     // By code: 0 empty, 1 black, 2 white.
     pub(crate) bytes: [u8; CELLS],
@@ -42,12 +46,16 @@ impl Cells {
     /// assert_eq!(Cells::new().empty_points().len(), 225);
     /// assert_eq!(Cells::new(), Cells::default());
     /// ```
+    #[must_use]
     pub const fn new() -> Self {
         Self { bytes: [0; CELLS] }
     }
 
-    /// The board of 225 cell bytes in code order, 0 empty, 1 black, 2 white;
-    /// refusal 9 for any other bytes.
+    /// The board of 225 cell bytes in code order, 0 empty, 1 black, 2 white.
+    ///
+    /// # Errors
+    ///
+    /// Refusal 9 for any other bytes.
     ///
     /// ```
     /// use renju::{Cells, Colour, Refusal};
@@ -77,16 +85,19 @@ impl Cells {
     /// assert_eq!(cells.as_bytes()[15], 2);
     /// # Ok::<(), renju::Refusal>(())
     /// ```
+    #[must_use]
     pub const fn as_bytes(&self) -> &[u8; CELLS] {
         &self.bytes
     }
 
     /// The board that a text says: stones (`G8,I8/A1`, Black's, then
     /// White's) or moves in turn (`H8,I9`). A lone point is one move, Black's.
+    /// A saved diagram is read by [`Cells::from_diagram`].
+    ///
+    /// # Errors
     ///
     /// Refusals 1 and 2 are for bytes that can be no text, 3 and 4 for
-    /// points, 3 also for a second slash. A saved diagram is read by
-    /// [`Cells::from_diagram`].
+    /// points, 3 also for a second slash.
     ///
     /// ```
     /// use renju::{Cells, Colour, Refusal};
@@ -100,13 +111,17 @@ impl Cells {
     /// ```
     pub fn read(text: &[u8]) -> Result<Self, Refusal> {
         let mut cells = Self::new();
-        answer(raw::renju_read(text, &mut cells.bytes))?;
+        let word = raw::renju_read(text, &mut cells.bytes);
+        answer(word)?;
+        done(word, CELLS);
         Ok(cells)
     }
 
     /// The board of a saved diagram: 15 lines of 15 cells, from row 15 down, `o`
     /// black, `x` white, any other byte empty, spaces dropped. Every text is
     /// taken for one: a slash or a comma is an empty cell.
+    ///
+    /// # Errors
     ///
     /// Refusals 1 and 2 are for bytes that can be no text, 5 for a line of over
     /// 15 cells, 6 for other than 15 lines, 7 for a line of under 15 cells.
@@ -121,13 +136,18 @@ impl Cells {
     /// ```
     pub fn from_diagram(text: &[u8]) -> Result<Self, Refusal> {
         let mut cells = Self::new();
-        answer(raw::renju_read_diagram(text, &mut cells.bytes))?;
+        let word = raw::renju_read_diagram(text, &mut cells.bytes);
+        answer(word)?;
+        done(word, CELLS);
         Ok(cells)
     }
 
     /// The stones text, which [`Cells::read`] reads as the same board: Black's
-    /// points by ascending code, a slash, White's. Refusal 22 where a side has
-    /// no stones.
+    /// points by ascending code, a slash, White's.
+    ///
+    /// # Errors
+    ///
+    /// Refusal 22 where a side has no stones.
     ///
     /// ```
     /// use renju::{Cells, Refusal};
@@ -141,11 +161,10 @@ impl Cells {
     pub fn to_stones(&self) -> Result<String, Refusal> {
         // The plain diagram reads back, so its stones are those of the board.
         let mut diagram = [0; DIAGRAM];
-        given(raw::renju_to_string(&self.bytes, &mut diagram));
+        done(raw::renju_to_string(&self.bytes, &mut diagram), DIAGRAM);
         let mut out = [0; STONES_TEXT];
         let length = answer(raw::renju_convert(&diagram, &mut out))?;
-        let text = out.get(..usize::from(length)).unwrap_or_default();
-        Ok(ascii(text).to_owned())
+        Ok(ascii(front(&out, length)).to_owned())
     }
 
     /// The diagram with its rows numbered and its columns lettered, 527
@@ -158,9 +177,10 @@ impl Cells {
     /// assert_eq!(text.lines().nth(7), Some(" 8 . . . . . . . o . . . . . . ."));
     /// # Ok::<(), renju::Refusal>(())
     /// ```
+    #[must_use]
     pub fn to_pretty_string(&self) -> String {
         let mut out = [0; PRETTY];
-        given(raw::renju_to_pretty_string(&self.bytes, &mut out));
+        done(raw::renju_to_pretty_string(&self.bytes, &mut out), PRETTY);
         ascii(&out).to_owned()
     }
 
@@ -177,7 +197,10 @@ impl Cells {
     /// ```
     pub fn put(&mut self, point: Point, colour: Colour) {
         // Sound cells, a point and a colour: never refused.
-        raw::renju_put(&mut self.bytes, point.code(), colour.number());
+        done(
+            raw::renju_put(&mut self.bytes, point.code(), colour.number()),
+            0,
+        );
     }
 
     /// Takes the stone off a point; at an empty one nothing changes.
@@ -190,7 +213,7 @@ impl Cells {
     /// ```
     pub fn remove(&mut self, point: Point) {
         // Sound cells and a point: never refused.
-        raw::renju_remove(&mut self.bytes, point.code());
+        done(raw::renju_remove(&mut self.bytes, point.code()), 0);
     }
 
     /// The stone at a point, if there is one.
@@ -203,6 +226,7 @@ impl Cells {
     /// assert_eq!(cells.stone("J10".parse()?), None);
     /// # Ok::<(), renju::Refusal>(())
     /// ```
+    #[must_use]
     pub fn stone(&self, point: Point) -> Option<Colour> {
         let byte = self.bytes.get(usize::from(point.code()))?;
         Colour::from_number(*byte).ok()
@@ -222,6 +246,7 @@ impl Cells {
     /// assert_eq!(cells.counts().to_string(), "1 black, 2 white");
     /// # Ok::<(), renju::Refusal>(())
     /// ```
+    #[must_use]
     pub fn counts(&self) -> Counts {
         // Sound cells: never refused. Black's stones are the low byte.
         let word = given(raw::renju_counts(&self.bytes));
@@ -245,11 +270,36 @@ impl Cells {
     /// assert_eq!(turned.stone("M15".parse()?), Some(Colour::Black));
     /// # Ok::<(), renju::Refusal>(())
     /// ```
+    #[must_use]
     pub fn turned(&self, view: View) -> Self {
         let mut cells = Self::new();
         // Sound cells, a view and room for all of them: never refused.
-        raw::renju_turn(&self.bytes, view.number(), &mut cells.bytes);
+        let word = raw::renju_turn(&self.bytes, view.number(), &mut cells.bytes);
+        done(word, CELLS);
         cells
+    }
+
+    /// The one of the eight turned boards that is least by its cell bytes, and the first view that gives
+    /// it: the same board for a position in whatever view it comes, so that games can be looked up by it.
+    ///
+    /// ```
+    /// use renju::{Cells, View};
+    ///
+    /// let cells: Cells = "C15,I9".parse()?;
+    /// let (least, view) = cells.canonical();
+    /// assert_eq!(cells.turned(view), least);
+    /// for other in View::ALL {
+    ///     assert!(cells.turned(other) >= least);
+    ///     assert_eq!(cells.turned(other).canonical().0, least);
+    /// }
+    /// # Ok::<(), renju::Refusal>(())
+    /// ```
+    #[must_use]
+    pub fn canonical(&self) -> (Self, View) {
+        let mut cells = Self::new();
+        // Sound cells and room for all of them: never refused.
+        let view = given(raw::renju_canonical(&self.bytes, &mut cells.bytes));
+        (cells, View::given(view))
     }
 }
 
@@ -267,13 +317,17 @@ pub struct Counts {
 /// The stones of both sides: `2 black, 1 white`.
 impl fmt::Display for Counts {
     fn fmt(&self, f: &mut fmt::Formatter<'_>) -> fmt::Result {
-        write!(f, "{} black, {} white", self.black, self.white)
+        pad(
+            f,
+            format_args!("{} black, {} white", self.black, self.white),
+        )
     }
 }
 
 /// A text that was written. Its bytes are ASCII, so there is always one.
 fn ascii(bytes: &[u8]) -> &str {
-    std::str::from_utf8(bytes).unwrap_or_default()
+    debug_assert!(bytes.is_ascii(), "the archive wrote no text");
+    core::str::from_utf8(bytes).unwrap_or_default()
 }
 
 impl Default for Cells {
@@ -332,7 +386,7 @@ impl FromStr for Cells {
 impl fmt::Display for Cells {
     fn fmt(&self, f: &mut fmt::Formatter<'_>) -> fmt::Result {
         let mut out = [0; DIAGRAM];
-        given(raw::renju_to_string(&self.bytes, &mut out));
+        done(raw::renju_to_string(&self.bytes, &mut out), DIAGRAM);
         f.write_str(ascii(&out))
     }
 }
@@ -340,5 +394,21 @@ impl fmt::Display for Cells {
 impl fmt::Debug for Cells {
     fn fmt(&self, f: &mut fmt::Formatter<'_>) -> fmt::Result {
         write!(f, "Cells(\n{self}\n)")
+    }
+}
+
+#[cfg(test)]
+mod tests {
+    use super::ascii;
+
+    #[test]
+    fn texts_are_ascii() {
+        assert_eq!(ascii(b"H8,I9"), "H8,I9");
+    }
+
+    #[test]
+    #[cfg_attr(debug_assertions, should_panic = "the archive wrote no text")]
+    fn no_other_text_is_written() {
+        assert_eq!(ascii(&[0xff]), "");
     }
 }

@@ -1,7 +1,8 @@
 //! The two colours of stones.
 
 use crate::Refusal;
-use std::fmt;
+use crate::named::numbered_and_named;
+use core::ops::Not;
 
 /// The colour of a stone, and the player who has it.
 ///
@@ -11,6 +12,9 @@ use std::fmt;
 /// use renju::Colour;
 ///
 /// assert_eq!(Colour::Black.to_string(), "Black");
+/// assert_eq!("black".parse(), Ok(Colour::Black));
+/// assert_eq!(!Colour::Black, Colour::White);
+/// assert_eq!(u8::from(Colour::White), 2);
 /// ```
 #[derive(Clone, Copy, Debug, PartialEq, Eq, PartialOrd, Ord, Hash)]
 #[repr(u8)]
@@ -39,11 +43,16 @@ impl Colour {
     /// ```
     /// assert_eq!(renju::Colour::White.number(), 2);
     /// ```
+    #[must_use]
     pub const fn number(self) -> u8 {
         self as u8
     }
 
-    /// The colour of a number; refusal 12 for any other than 1 and 2.
+    /// The colour of a number.
+    ///
+    /// # Errors
+    ///
+    /// Refusal 12 for any other than 1 and 2.
     ///
     /// ```
     /// use renju::{Colour, Refusal};
@@ -59,13 +68,28 @@ impl Colour {
         }
     }
 
-    /// The other colour.
+    /// `Black` or `White`.
+    ///
+    /// ```
+    /// assert_eq!(renju::Colour::White.name(), "White");
+    /// ```
+    #[must_use]
+    pub const fn name(self) -> &'static str {
+        match self {
+            Self::Black => "Black",
+            Self::White => "White",
+        }
+    }
+
+    /// The other colour, which `!` gives too.
     ///
     /// ```
     /// use renju::Colour;
     ///
     /// assert_eq!(Colour::Black.opponent(), Colour::White);
+    /// assert_eq!(!Colour::White, Colour::Black);
     /// ```
+    #[must_use]
     pub const fn opponent(self) -> Self {
         match self {
             Self::Black => Self::White,
@@ -74,11 +98,13 @@ impl Colour {
     }
 }
 
-impl fmt::Display for Colour {
-    fn fmt(&self, f: &mut fmt::Formatter<'_>) -> fmt::Result {
-        f.pad(match self {
-            Self::Black => "Black",
-            Self::White => "White",
-        })
+numbered_and_named!(Colour);
+
+/// The other colour.
+impl Not for Colour {
+    type Output = Self;
+
+    fn not(self) -> Self {
+        self.opponent()
     }
 }

@@ -44,10 +44,11 @@
 //! # Ok::<(), renju::Refusal>(())
 //! ```
 
+use crate::list::front;
 use crate::raw::{renju_feed_missing, renju_feed_take};
 use crate::refusal::answer;
 use crate::{Cells, Colour, MOVES, Point, Refusal};
-use std::fmt;
+use core::fmt;
 
 /// A move of a game, on its way to a client.
 ///
@@ -58,7 +59,7 @@ use std::fmt;
 /// assert_eq!(message.to_bytes(), [0, 0, 1, 2, 0, 1, 112]);
 /// assert_eq!(Message::from_bytes(message.to_bytes()), message);
 /// ```
-#[derive(Clone, Copy, Debug, PartialEq, Eq, Hash)]
+#[derive(Clone, Copy, Debug, PartialEq, Eq, PartialOrd, Ord, Hash)]
 pub struct Message {
     /// The game that the move is of.
     pub game: u32,
@@ -78,6 +79,7 @@ impl Message {
     /// let message = Message { game: 1, number: 225, code: 224 };
     /// assert_eq!(message.to_bytes(), [0, 0, 0, 1, 0, 225, 224]);
     /// ```
+    #[must_use]
     pub const fn to_bytes(self) -> [u8; 7] {
         let ([a, b, c, d], [e, f]) = (self.game.to_be_bytes(), self.number.to_be_bytes());
         [a, b, c, d, e, f, self.code]
@@ -91,6 +93,7 @@ impl Message {
     ///
     /// assert_eq!(Message::from_bytes([0, 0, 0, 1, 0, 9, 255]).code, 255);
     /// ```
+    #[must_use]
     pub const fn from_bytes([a, b, c, d, e, f, code]: [u8; 7]) -> Self {
         Self {
             game: u32::from_be_bytes([a, b, c, d]),
@@ -107,7 +110,7 @@ impl Message {
 ///
 /// assert_eq!(Client::new(7).ask(), Answer { game: 7, count: 0 });
 /// ```
-#[derive(Clone, Copy, Debug, PartialEq, Eq, Hash)]
+#[derive(Clone, Copy, Debug, PartialEq, Eq, PartialOrd, Ord, Hash)]
 pub struct Answer {
     /// The client's game number.
     pub game: u32,
@@ -124,6 +127,7 @@ impl Answer {
     ///
     /// assert_eq!(Answer { game: 258, count: 3 }.to_bytes(), [0, 0, 1, 2, 0, 3]);
     /// ```
+    #[must_use]
     pub const fn to_bytes(self) -> [u8; 6] {
         let ([a, b, c, d], [e, f]) = (self.game.to_be_bytes(), self.count.to_be_bytes());
         [a, b, c, d, e, f]
@@ -137,6 +141,7 @@ impl Answer {
     /// let answer = Answer { game: 7, count: 225 };
     /// assert_eq!(Answer::from_bytes(answer.to_bytes()), answer);
     /// ```
+    #[must_use]
     pub const fn from_bytes([a, b, c, d, e, f]: [u8; 6]) -> Self {
         Self {
             game: u32::from_be_bytes([a, b, c, d]),
@@ -189,7 +194,7 @@ impl Held {
     }
 
     fn as_codes(&self) -> &[u8] {
-        self.codes.get(..self.count.into()).unwrap_or_default()
+        front(&self.codes, self.count)
     }
 
     fn cells(&self) -> Cells {
@@ -238,6 +243,7 @@ impl Client {
     /// ```
     /// assert!(renju::feed::Client::new(7).as_codes().is_empty());
     /// ```
+    #[must_use]
     pub const fn new(game: u32) -> Self {
         Self {
             held: Held::new(game),
@@ -268,6 +274,7 @@ impl Client {
     /// ```
     /// assert_eq!(renju::feed::Client::new(7).ask().game, 7);
     /// ```
+    #[must_use]
     pub const fn ask(&self) -> Answer {
         Answer {
             game: self.held.game,
@@ -280,6 +287,7 @@ impl Client {
     /// ```
     /// assert_eq!(renju::feed::Client::new(7).as_codes(), []);
     /// ```
+    #[must_use]
     pub fn as_codes(&self) -> &[u8] {
         self.held.as_codes()
     }
@@ -291,6 +299,7 @@ impl Client {
     ///
     /// assert_eq!(renju::feed::Client::new(7).cells(), Cells::new());
     /// ```
+    #[must_use]
     pub fn cells(&self) -> Cells {
         self.held.cells()
     }
@@ -332,6 +341,7 @@ impl Server {
     /// ```
     /// assert_eq!(renju::feed::Server::new(7).game(), 7);
     /// ```
+    #[must_use]
     pub const fn new(game: u32) -> Self {
         Self {
             held: Held::new(game),
@@ -344,6 +354,7 @@ impl Server {
     /// ```
     /// assert_eq!(renju::feed::Server::new(7).game(), 7);
     /// ```
+    #[must_use]
     pub const fn game(&self) -> u32 {
         self.held.game
     }
@@ -353,11 +364,16 @@ impl Server {
     /// ```
     /// assert_eq!(renju::feed::Server::new(7).count(), 0);
     /// ```
+    #[must_use]
     pub const fn count(&self) -> u16 {
         self.held.count
     }
 
-    /// A move is added; refusal 8 for a code over 224, then 14 for a 226th move.
+    /// A move is added.
+    ///
+    /// # Errors
+    ///
+    /// Refusal 8 for a code over 224, then 14 for a 226th move.
     ///
     /// ```
     /// use renju::{Refusal, feed::Server};
@@ -376,7 +392,11 @@ impl Server {
     }
 
     /// The last move is taken back (of an empty game: none), and a new game
-    /// number opened, which is given; refusal 17 where there is none left.
+    /// number opened, which is given.
+    ///
+    /// # Errors
+    ///
+    /// Refusal 17 where there is no number left.
     ///
     /// ```
     /// use renju::{Refusal, feed::Server};
@@ -400,8 +420,11 @@ impl Server {
         Ok(self.held.game)
     }
 
-    /// The message of a move, by its number from 1; refusal 18 where the game
-    /// has no such move.
+    /// The message of a move, by its number from 1.
+    ///
+    /// # Errors
+    ///
+    /// Refusal 18 where the game has no such move.
     ///
     /// ```
     /// use renju::{Refusal, feed::Server};
@@ -457,6 +480,7 @@ impl Server {
     /// assert_eq!(server.heard(), 1);
     /// # Ok::<(), renju::Refusal>(())
     /// ```
+    #[must_use]
     pub const fn heard(&self) -> u16 {
         self.heard
     }
@@ -466,6 +490,7 @@ impl Server {
     /// ```
     /// assert!(renju::feed::Server::new(7).holds_all());
     /// ```
+    #[must_use]
     pub const fn holds_all(&self) -> bool {
         self.heard == self.held.count
     }
@@ -478,6 +503,7 @@ impl Server {
     /// assert_eq!(server.as_codes(), [112]);
     /// # Ok::<(), renju::Refusal>(())
     /// ```
+    #[must_use]
     pub fn as_codes(&self) -> &[u8] {
         self.held.as_codes()
     }
@@ -490,6 +516,7 @@ impl Server {
     /// assert!(server.cells().stone("H8".parse()?).is_some());
     /// # Ok::<(), renju::Refusal>(())
     /// ```
+    #[must_use]
     pub fn cells(&self) -> Cells {
         self.held.cells()
     }
@@ -497,7 +524,11 @@ impl Server {
 
 /// Two held lists compared as plain bytes: if one begins the other, the
 /// caller's own part of the longer that the shorter lacks; of equal lists the
-/// empty end of the first. Refusal 19 where neither begins the other.
+/// empty end of the first.
+///
+/// # Errors
+///
+/// Refusal 19 where neither begins the other.
 ///
 /// ```
 /// use renju::{Refusal, feed::missing};
@@ -509,9 +540,34 @@ impl Server {
 /// # Ok::<(), Refusal>(())
 /// ```
 pub fn missing<'a>(first: &'a [u8], second: &'a [u8]) -> Result<&'a [u8], Refusal> {
-    let part = match answer(renju_feed_missing(first, second))? {
-        0 | 1 => first.get(second.len()..),
-        _ => second.get(first.len()..),
+    let longer = answer(renju_feed_missing(first, second))?;
+    Ok(lacked(longer, first, second))
+}
+
+/// The part of the longer list, the second where the archive said 2, that the shorter lacks.
+fn lacked<'a>(longer: u16, first: &'a [u8], second: &'a [u8]) -> &'a [u8] {
+    let part = match longer {
+        2 => second.get(first.len()..),
+        _ => first.get(second.len()..),
     };
-    Ok(part.unwrap_or_default())
+    debug_assert!(longer <= 2 && part.is_some(), "the archive gave {longer}");
+    part.unwrap_or_default()
+}
+
+#[cfg(test)]
+mod tests {
+    use super::lacked;
+
+    #[test]
+    fn the_longer_list_has_the_part() {
+        assert_eq!(lacked(0, &[1, 2], &[1, 2]), []);
+        assert_eq!(lacked(1, &[1, 2], &[1]), [2]);
+        assert_eq!(lacked(2, &[1], &[1, 2, 3]), [2, 3]);
+    }
+
+    #[test]
+    #[cfg_attr(debug_assertions, should_panic = "the archive gave 1")]
+    fn the_shorter_list_has_none() {
+        assert_eq!(lacked(1, &[1], &[1, 2]), []);
+    }
 }

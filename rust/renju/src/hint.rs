@@ -3,6 +3,8 @@
 use crate::raw;
 use crate::refusal::given;
 use crate::{CELLS, Cells, Colour, LINE, List, Point, Refusal};
+use core::fmt;
+use core::str::FromStr;
 
 /// A line of fours: the first attack, its reply, the next attack, and so on;
 /// the last point is an attack's.
@@ -36,7 +38,11 @@ impl Limit {
     /// Six attacks, the most.
     pub const SIX: Self = Self(6);
 
-    /// The limit of a number; refusal 21 for one outside 1 to 6.
+    /// The limit of a number.
+    ///
+    /// # Errors
+    ///
+    /// Refusal 21 for one outside 1 to 6.
     ///
     /// ```
     /// assert_eq!(renju::Limit::new(3)?.number(), 3);
@@ -54,8 +60,40 @@ impl Limit {
     /// ```
     /// assert_eq!(renju::Limit::SIX.number(), 6);
     /// ```
+    #[must_use]
     pub const fn number(self) -> u8 {
         self.0
+    }
+}
+
+/// The number.
+impl fmt::Display for Limit {
+    fn fmt(&self, f: &mut fmt::Formatter<'_>) -> fmt::Result {
+        self.0.fmt(f)
+    }
+}
+
+/// By its number; refusal 21 for any other text.
+impl FromStr for Limit {
+    type Err = Refusal;
+
+    fn from_str(text: &str) -> Result<Self, Refusal> {
+        text.parse().map_or(Err(Refusal::Limit), Self::new)
+    }
+}
+
+/// As [`Limit::new`].
+impl TryFrom<u8> for Limit {
+    type Error = Refusal;
+
+    fn try_from(number: u8) -> Result<Self, Refusal> {
+        Self::new(number)
+    }
+}
+
+impl From<Limit> for u8 {
+    fn from(limit: Limit) -> Self {
+        limit.number()
     }
 }
 
@@ -103,6 +141,7 @@ impl Cells {
     /// assert_eq!(line.len(), 1);
     /// # Ok::<(), renju::Refusal>(())
     /// ```
+    #[must_use]
     pub fn shortest_win_by_fours(&self, colour: Colour, limit: Limit) -> Option<WinLine> {
         (1..=limit.number()).find_map(|number| self.win_by_fours(colour, Limit(number)))
     }
@@ -120,6 +159,7 @@ impl Cells {
     /// assert!(!cells.is_win_by_fours(Colour::White, &[]));
     /// # Ok::<(), renju::Refusal>(())
     /// ```
+    #[must_use]
     pub fn is_win_by_fours(&self, colour: Colour, line: &[Point]) -> bool {
         // Each point of such a line is empty before its stone, so that it has at most 225.
         let mut codes = [0; CELLS];

@@ -1,7 +1,7 @@
 //! The eight kinds of rows.
 
 use crate::Refusal;
-use std::fmt;
+use crate::named::numbered_and_named;
 
 /// A kind of row, told by the stones in one or two neighbouring windows of
 /// five cells (section 4 of document 01).
@@ -67,11 +67,16 @@ impl Kind {
     /// ```
     /// assert_eq!(renju::Kind::Four.number(), 4);
     /// ```
+    #[must_use]
     pub const fn number(self) -> u8 {
         self as u8
     }
 
-    /// The kind of a number; refusal 12 for one over 7.
+    /// The kind of a number.
+    ///
+    /// # Errors
+    ///
+    /// Refusal 12 for one over 7.
     ///
     /// ```
     /// use renju::{Kind, Refusal};
@@ -92,11 +97,18 @@ impl Kind {
             _ => return Err(Refusal::Number),
         })
     }
-}
 
-impl fmt::Display for Kind {
-    fn fmt(&self, f: &mut fmt::Formatter<'_>) -> fmt::Result {
-        f.pad(match self {
+    /// Its name, as it stands here.
+    ///
+    /// ```
+    /// use renju::Kind;
+    ///
+    /// assert_eq!(Kind::Overlining.name(), "Overlining");
+    /// assert_eq!("four".parse(), Ok(Kind::Four));
+    /// ```
+    #[must_use]
+    pub const fn name(self) -> &'static str {
+        match self {
             Self::Two => "Two",
             Self::Three => "Three",
             Self::Straight => "Straight",
@@ -105,6 +117,8 @@ impl fmt::Display for Kind {
             Self::Five => "Five",
             Self::Overlining => "Overlining",
             Self::Overlined => "Overlined",
-        })
+        }
     }
 }
+
+numbered_and_named!(Kind);

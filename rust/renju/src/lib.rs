@@ -3,7 +3,9 @@
 //!
 //! The functions of `crates/renju` are proved for all input and compiled into an archive, which
 //! this crate links and makes safe and typed. A board is [`Cells`], 225 bytes by value. Nothing
-//! here panics or keeps state, and only texts use the heap.
+//! here panics or keeps state, and only texts use the heap. It needs no `std`, and of `alloc` the
+//! `String` alone. What the archive's contracts rule out is looked at in debug builds, where it
+//! would panic.
 //!
 //! # A frame server
 //!
@@ -49,6 +51,9 @@
 //! [`Moves::report`] reads a list of moves to its first faulty one, or to its winner, and hands the
 //! board back.
 //!
+//! A [`Game`] is one that is played: it knows whose turn it is and what may be played, takes a legal move and
+//! says why another is not, and takes moves back.
+//!
 //! # Checks at night
 //!
 //! [`second`] asks a second referee the same about rows and verdicts: a slow one, which walks the
@@ -77,6 +82,11 @@
 //! [`Cells::win_by_fours`] finds a line of fours that wins against every reply, and
 //! [`Cells::is_win_by_fours`] tells whether a list of points is one.
 //!
+//! # Pictures
+//!
+//! [`Cells::to_svg`] draws the board with its crosses as SVG; a [`Picture`] also shows moves, words
+//! and a view.
+//!
 //! # Refusals
 //!
 //! What can be refused is a `Result` with a [`Refusal`], which has the number that the Rattle and
@@ -87,19 +97,31 @@
 //! "Document 01" in this crate is the project's paper on the rules and the refusals; its sentences
 //! stand beside the definitions in `crates/rules/specs`.
 
+#![no_std]
 #![deny(unsafe_code)]
 #![deny(unsafe_op_in_unsafe_fn)]
 #![warn(missing_docs)]
+#![warn(clippy::must_use_candidate)]
+#![warn(clippy::missing_errors_doc)]
+#![warn(clippy::undocumented_unsafe_blocks)]
 
+extern crate alloc;
+#[cfg(test)]
+extern crate std;
+
+mod canonical;
 mod cells;
 mod colour;
 pub mod feed;
+mod game;
 mod hint;
 mod kind;
 mod line;
 mod list;
 mod mend;
 mod moves;
+mod moves_text;
+mod named;
 mod point;
 mod questions;
 #[allow(unsafe_code)] // The calls into the archive.
@@ -110,11 +132,14 @@ mod refusal;
 mod row;
 pub mod second;
 pub mod sgf;
+mod svg;
 mod verdict;
 mod view;
 
+pub use canonical::Canonical;
 pub use cells::{Cells, Counts};
 pub use colour::Colour;
+pub use game::{Game, Illegal, Unplayable};
 pub use hint::{Limit, WinLine};
 pub use kind::Kind;
 pub use line::Line;
@@ -125,6 +150,7 @@ pub use point::Point;
 pub use record::{Record, RecordBytes};
 pub use refusal::Refusal;
 pub use row::Row;
+pub use svg::Picture;
 pub use verdict::{Cross, Verdict};
 pub use view::View;
 

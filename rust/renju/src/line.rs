@@ -26,9 +26,12 @@ pub struct Line {
 }
 
 impl Line {
-    /// A line of `size` cells with these stones: refusal 10 for a size that
-    /// is not 5 to 15, 9 where a stone is past the end or a cell has both
-    /// colours.
+    /// A line of `size` cells with these stones.
+    ///
+    /// # Errors
+    ///
+    /// Refusal 10 for a size that is not 5 to 15, 9 where a stone is past the end
+    /// or a cell has both colours.
     ///
     /// ```
     /// use renju::{Line, Refusal};
@@ -55,6 +58,7 @@ impl Line {
     /// assert_eq!(renju::Line::new(0b00011, 0b11000, 5)?.blacks(), 0b00011);
     /// # Ok::<(), renju::Refusal>(())
     /// ```
+    #[must_use]
     pub const fn blacks(self) -> u16 {
         self.blacks
     }
@@ -65,6 +69,7 @@ impl Line {
     /// assert_eq!(renju::Line::new(0b00011, 0b11000, 5)?.whites(), 0b11000);
     /// # Ok::<(), renju::Refusal>(())
     /// ```
+    #[must_use]
     pub const fn whites(self) -> u16 {
         self.whites
     }
@@ -75,6 +80,7 @@ impl Line {
     /// assert_eq!(renju::Line::new(0b00011, 0b11000, 5)?.size(), 5);
     /// # Ok::<(), renju::Refusal>(())
     /// ```
+    #[must_use]
     pub const fn size(self) -> u8 {
         self.size
     }
@@ -90,6 +96,7 @@ impl Line {
     /// assert_eq!(line.row_starts(Colour::Black, Kind::Overlined), 0b10);
     /// # Ok::<(), renju::Refusal>(())
     /// ```
+    #[must_use]
     pub fn row_starts(self, colour: Colour, kind: Kind) -> u16 {
         given(renju_line_starts(
             self.blacks,
@@ -100,7 +107,11 @@ impl Line {
         ))
     }
 
-    /// Those through a cell; refusal 10 for a cell that is not on the line.
+    /// Those through a cell.
+    ///
+    /// # Errors
+    ///
+    /// Refusal 10 for a cell that is not on the line.
     ///
     /// ```
     /// use renju::{Colour, Kind, Line, Refusal};
@@ -132,6 +143,7 @@ impl Line {
     /// assert_eq!(line.row_eyes(Colour::White, Kind::Four), 0b10000);
     /// # Ok::<(), renju::Refusal>(())
     /// ```
+    #[must_use]
     pub fn row_eyes(self, colour: Colour, kind: Kind) -> u16 {
         given(renju_line_eyes(
             self.blacks,

@@ -1,11 +1,12 @@
 //! Lists of fixed room, by value.
 
 use crate::{CELLS, Cross, Point, ROWS, ROWS_ON, Row};
-use std::array;
-use std::fmt;
-use std::hash::{Hash, Hasher};
-use std::iter::Take;
-use std::ops::Deref;
+use core::array;
+use core::cmp::Ordering;
+use core::fmt;
+use core::hash::{Hash, Hasher};
+use core::iter::Take;
+use core::ops::Deref;
 
 /// At most `N` items, on the stack: what a question about a board gives back.
 ///
@@ -69,9 +70,19 @@ pub type Rows = List<Row, ROWS>;
 /// ```
 pub type RowsOn = List<Row, ROWS_ON>;
 
+/// The first `count` of a buffer's items. There are as many, by the archive's contracts or by what was
+/// counted here: that is looked at in debug builds, and in others there would be none.
+pub(crate) fn front<T>(items: &[T], count: impl Into<usize>) -> &[T] {
+    let part = items.get(..count.into());
+    debug_assert!(part.is_some(), "more items than there is room for");
+    part.unwrap_or_default()
+}
+
 impl<T: Copy, const N: usize> List<T, N> {
     /// The first `count` items, as far as there is room.
     pub(crate) fn gather(filler: T, count: u16, items: impl Iterator<Item = T>) -> Self {
+        // The longest answer of a question is no longer than its list's room.
+        debug_assert!(usize::from(count) <= N, "the archive gave {count} items");
         let len = usize::from(count).min(N);
         let mut list = Self {
             items: [filler; N],
@@ -95,8 +106,7 @@ impl<T, const N: usize> List<T, N> {
     /// # Ok::<(), renju::Refusal>(())
     /// ```
     pub fn as_slice(&self) -> &[T] {
-        // `len` is at most N, so there is such a part.
-        self.items.get(..self.len).unwrap_or_default()
+        front(&self.items, self.len)
     }
 }
 
@@ -125,7 +135,7 @@ impl<T, const N: usize> IntoIterator for List<T, N> {
 
 impl<'a, T, const N: usize> IntoIterator for &'a List<T, N> {
     type Item = &'a T;
-    type IntoIter = std::slice::Iter<'a, T>;
+    type IntoIter = core::slice::Iter<'a, T>;
 
     fn into_iter(self) -> Self::IntoIter {
         self.iter()
@@ -140,6 +150,19 @@ impl<T: PartialEq, const N: usize> PartialEq for List<T, N> {
 
 impl<T: Eq, const N: usize> Eq for List<T, N> {}
 
+/// As slices are: by the first item that differs, else the shorter first.
+impl<T: PartialOrd, const N: usize> PartialOrd for List<T, N> {
+    fn partial_cmp(&self, other: &Self) -> Option<Ordering> {
+        self.as_slice().partial_cmp(other.as_slice())
+    }
+}
+
+impl<T: Ord, const N: usize> Ord for List<T, N> {
+    fn cmp(&self, other: &Self) -> Ordering {
+        self.as_slice().cmp(other.as_slice())
+    }
+}
+
 impl<T: Hash, const N: usize> Hash for List<T, N> {
     fn hash<H: Hasher>(&self, state: &mut H) {
         self.as_slice().hash(state);
@@ -149,5 +172,48 @@ impl<T: Hash, const N: usize> Hash for List<T, N> {
 impl<T: fmt::Debug, const N: usize> fmt::Debug for List<T, N> {
     fn fmt(&self, f: &mut fmt::Formatter<'_>) -> fmt::Result {
         f.debug_list().entries(self).finish()
+    }
+}
+
+#[cfg(test)]
+mod tests {
+    use super::{List, front};
+    use core::hash::{BuildHasher, BuildHasherDefault};
+    use std::hash::DefaultHasher;
+
+    fn list(filler: u8, items: &[u8]) -> List<u8, 4> {
+        List::gather(filler, items.len() as u16, items.iter().copied())
+    }
+
+    #[test]
+    fn the_front_of_a_buffer() {
+        assert_eq!(front(&[1, 2, 3], 2u8), [1, 2]);
+        assert_eq!(front(&[1, 2, 3], 3u16), [1, 2, 3]);
+        assert_eq!(front(&[1, 2, 3], 0u16), []);
+    }
+
+    #[test]
+    #[cfg_attr(debug_assertions, should_panic = "more items than there is room for")]
+    fn no_front_is_longer() {
+        assert_eq!(front(&[1, 2, 3], 4u8), []);
+    }
+
+    #[test]
+    #[cfg_attr(debug_assertions, should_panic = "the archive gave 5 items")]
+    fn no_list_is_longer_than_its_room() {
+        assert_eq!(list(0, &[1, 2, 3, 4, 5]).as_slice(), [1, 2, 3, 4]);
+    }
+
+    /// What only fills the room is no part of a list.
+    #[test]
+    fn fillers_are_not_looked_at() {
+        let hasher = BuildHasherDefault::<DefaultHasher>::default();
+        let (one, same, other) = (list(0, &[1, 2]), list(9, &[1, 2]), list(0, &[1, 2, 0]));
+        assert_eq!(one, same);
+        assert_eq!(hasher.hash_one(&one), hasher.hash_one(&same));
+        assert_ne!(one, other);
+        assert_ne!(hasher.hash_one(&one), hasher.hash_one(&other));
+        assert_ne!(hasher.hash_one(&one), hasher.hash_one(list(0, &[1, 3])));
+        assert!(one < other && other < list(0, &[1, 3]) && list(9, &[]) < one);
     }
 }

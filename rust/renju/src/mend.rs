@@ -1,9 +1,11 @@
 //! Hand-typed move lists mended.
 
+use crate::list::front;
+use crate::named::numbered_and_named;
 use crate::raw::renju_mend;
 use crate::refusal::answer;
 use crate::{MENDED, Point, Points, Refusal};
-use std::fmt;
+use core::fmt;
 
 /// What is kept of a hand-typed move list, and the first item that slips.
 ///
@@ -54,16 +56,57 @@ impl Slip {
     /// ```
     /// assert_eq!(renju::Slip::YPart.number(), 4);
     /// ```
+    #[must_use]
     pub const fn number(self) -> u8 {
         self as u8
     }
+
+    /// The slip of a number.
+    ///
+    /// # Errors
+    ///
+    /// Refusal 12 for any other than 1, 3 and 4.
+    ///
+    /// ```
+    /// use renju::{Refusal, Slip};
+    ///
+    /// assert_eq!(Slip::from_number(3), Ok(Slip::XPart));
+    /// assert_eq!(Slip::from_number(2), Err(Refusal::Number));
+    /// ```
+    pub const fn from_number(number: u8) -> Result<Self, Refusal> {
+        Ok(match number {
+            1 => Self::Repeat,
+            3 => Self::XPart,
+            4 => Self::YPart,
+            _ => return Err(Refusal::Number),
+        })
+    }
+
+    /// Its name, as it stands here.
+    ///
+    /// ```
+    /// assert_eq!(renju::Slip::Repeat.name(), "Repeat");
+    /// ```
+    #[must_use]
+    pub const fn name(self) -> &'static str {
+        match self {
+            Self::Repeat => "Repeat",
+            Self::XPart => "XPart",
+            Self::YPart => "YPart",
+        }
+    }
 }
+
+numbered_and_named!(Slip);
 
 /// A hand-typed comma list of moves mended: the leading moves up to the first
 /// item that does not read as a point or names a point that is kept already.
 ///
-/// The whole text is the list; an empty one is one item, which slips. Refusals
-/// 1 and 2.
+/// The whole text is the list; an empty one is one item, which slips.
+///
+/// # Errors
+///
+/// Refusals 1 and 2.
 ///
 /// ```
 /// use renju::{Refusal, Slip, mend};
@@ -78,8 +121,9 @@ pub fn mend(text: &[u8]) -> Result<Mended, Refusal> {
     let mut out = [0; MENDED];
     let length = answer(renju_mend(text, &mut out))?;
     // Two lines of points, commas and digits, by contract.
-    let mut lines = out[..usize::from(length)].split(|&byte| byte == b'\n');
+    let mut lines = front(&out, length).split(|&byte| byte == b'\n');
     let (first, second) = (lines.next(), lines.next());
+    debug_assert!(second.is_some(), "the archive wrote no second line");
     let kept = first.unwrap_or_default().split(|&byte| byte == b',');
     let kept = kept.filter_map(point);
     let kept = Points::gather(Point::given(0), kept.clone().count() as u16, kept);
@@ -120,5 +164,23 @@ impl fmt::Display for Mended {
             .slip
             .map_or((0, 0), |(item, slip)| (item, slip.number()));
         write!(f, "\n{item} {reason}")
+    }
+}
+
+#[cfg(test)]
+mod tests {
+    use super::{number, point};
+    use crate::Point;
+
+    #[test]
+    fn names_as_they_are_written() {
+        for each in Point::all() {
+            let name = std::format!("{each}");
+            assert_eq!(point(name.as_bytes()), Some(each));
+        }
+        for name in ["", "H", "H0", "H16", "P1", "H256", "H257"] {
+            assert_eq!(point(name.as_bytes()), None, "{name}");
+        }
+        assert_eq!((number(b""), number(b"0"), number(b"4096")), (0, 0, 4096));
     }
 }

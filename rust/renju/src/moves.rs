@@ -1,9 +1,11 @@
 //! Whole games: a list of points in the order of play, and the referee's report of it.
 
+use crate::list::front;
+use crate::named::{numbered_and_named, pad};
 use crate::raw;
-use crate::refusal::given;
-use crate::{Cells, Colour, MOVES, Point, REPORT, Refusal};
-use std::fmt;
+use crate::refusal::done;
+use crate::{Cells, Colour, MOVES, Point, REPORT, Refusal, View};
+use core::fmt;
 
 /// A recorded game: at most 225 points in the order of play, Black's first.
 ///
@@ -21,15 +23,21 @@ use std::fmt;
 /// assert_eq!(report.to_string(), "move 9 (H8): forbidden, DoubleThree");
 /// # Ok::<(), Refusal>(())
 /// ```
-#[derive(Clone, Copy, PartialEq, Eq, Hash)]
+/// Games are in order as their lists of codes are: by the first code that differs, else the shorter
+/// first.
+#[derive(Clone, Copy, PartialEq, Eq, PartialOrd, Ord, Hash)]
 pub struct Moves {
-    // The codes of the moves, then zeros.
+    // The codes of the moves, then zeros: so the derived order is that of the lists.
     codes: [u8; MOVES],
     length: u8,
 }
 
 impl Moves {
-    /// The game of these points; refusal 14 for more than 225.
+    /// The game of these points.
+    ///
+    /// # Errors
+    ///
+    /// Refusal 14 for more than 225.
     ///
     /// ```
     /// use renju::{Moves, Refusal};
@@ -43,7 +51,11 @@ impl Moves {
         Self::made(points.len(), points.iter().map(|point| point.code()))
     }
 
-    /// The game of these codes; refusal 14 for more than 225, then 8 for a code over 224.
+    /// The game of these codes.
+    ///
+    /// # Errors
+    ///
+    /// Refusal 14 for more than 225, then 8 for a code over 224.
     ///
     /// ```
     /// use renju::{Moves, Refusal};
@@ -61,11 +73,16 @@ impl Moves {
         Ok(game)
     }
 
-    fn made(length: usize, codes: impl Iterator<Item = u8>) -> Result<Self, Refusal> {
-        let mut game = Self {
+    /// No moves.
+    pub(crate) const fn empty() -> Self {
+        Self {
             codes: [0; MOVES],
             length: 0,
-        };
+        }
+    }
+
+    fn made(length: usize, codes: impl Iterator<Item = u8>) -> Result<Self, Refusal> {
+        let mut game = Self::empty();
         if length > MOVES {
             return Err(Refusal::ManyMoves);
         }
@@ -82,8 +99,9 @@ impl Moves {
     /// assert_eq!(renju::Moves::from_codes(&[112, 0])?.as_codes(), [112, 0]);
     /// # Ok::<(), renju::Refusal>(())
     /// ```
+    #[must_use]
     pub fn as_codes(&self) -> &[u8] {
-        self.codes.get(..self.length.into()).unwrap_or_default()
+        front(&self.codes, self.length)
     }
 
     /// The points in the order of play.
@@ -93,8 +111,51 @@ impl Moves {
     /// assert_eq!(game.points().last(), Some("A1".parse()?));
     /// # Ok::<(), renju::Refusal>(())
     /// ```
+    #[must_use]
     pub fn points(&self) -> impl ExactSizeIterator<Item = Point> + DoubleEndedIterator + '_ {
         self.as_codes().iter().map(|&code| Point::given(code))
+    }
+
+    /// These moves and one more; none where there are 225 already.
+    pub(crate) fn and(&self, point: Point) -> Option<Self> {
+        let mut moves = *self;
+        *moves.codes.get_mut(usize::from(self.length))? = point.code();
+        moves.length += 1;
+        Some(moves)
+    }
+
+    /// The first moves, as many as are asked for and there are.
+    pub(crate) fn leading(&self, count: u8) -> Self {
+        let mut moves = *self;
+        moves.length = count.min(self.length);
+        for code in moves.codes.iter_mut().skip(moves.length.into()) {
+            *code = 0;
+        }
+        moves
+    }
+
+    /// The moves but the last.
+    pub(crate) fn without_last(&self) -> Self {
+        self.leading(self.length.saturating_sub(1))
+    }
+
+    /// The moves in a view, each at its turned point.
+    ///
+    /// ```
+    /// use renju::{Moves, View};
+    ///
+    /// let moves: Moves = "C15,I9".parse()?;
+    /// assert_eq!(moves.turned(View::LeftRight).to_string(), "M15,G9");
+    /// # Ok::<(), renju::Refusal>(())
+    /// ```
+    #[must_use]
+    pub fn turned(&self, view: View) -> Self {
+        let mut moves = *self;
+        let turned = self.points().map(|point| point.turned(view).code());
+        for (place, code) in moves.codes.iter_mut().zip(turned) {
+            *place = code;
+        }
+        moves
     }
 
     /// What the referee says of the game: its first faulty move, or its winner, and the board.
@@ -112,13 +173,17 @@ impl Moves {
     /// assert_eq!(report.winner, Some(Colour::Black));
     /// # Ok::<(), renju::Refusal>(())
     /// ```
+    #[must_use]
     pub fn report(&self) -> Report {
         let mut out = [0; REPORT];
         // At most 225 moves, each a point, and room for all: never refused.
-        given(raw::renju_game(self.as_codes(), &mut out));
+        let word = raw::renju_game(self.as_codes(), &mut out);
         let [number, reason, winner, cells @ ..] = out;
+        done(word, number.into());
+        debug_assert!(winner <= 2, "the archive gave winner {winner}");
         Report {
             fault: self.fault(number, reason),
+            // 0 is nobody.
             winner: Colour::from_number(winner).ok(),
             cells: Cells { bytes: cells },
         }
@@ -127,10 +192,13 @@ impl Moves {
     /// The faulty move of a number, 0 for none.
     fn fault(&self, number: u8, reason: u8) -> Option<Fault> {
         let place = number.checked_sub(1)?;
+        let (point, reason) = (self.points().nth(place.into()), Reason::from_number(reason));
+        let given = point.is_some() && reason.is_ok();
+        debug_assert!(given, "the archive gave fault {number}");
         Some(Fault {
             number,
-            point: self.points().nth(place.into())?,
-            reason: Reason::from_number(reason)?,
+            point: point?,
+            reason: reason.ok()?,
         })
     }
 }
@@ -194,42 +262,48 @@ impl Reason {
     /// ```
     /// assert_eq!(renju::Reason::AfterFive.number(), 3);
     /// ```
+    #[must_use]
     pub const fn number(self) -> u8 {
         self as u8
     }
 
-    /// The reason of a number; none for 0, no fault, and for a number over 3.
+    /// The reason of a number.
+    ///
+    /// # Errors
+    ///
+    /// Refusal 12 for 0, which is no fault, and for a number over 3.
     ///
     /// ```
-    /// use renju::Reason;
+    /// use renju::{Reason, Refusal};
     ///
-    /// assert_eq!(Reason::from_number(2), Some(Reason::Forbidden));
-    /// assert_eq!(Reason::from_number(0), None);
+    /// assert_eq!(Reason::from_number(2), Ok(Reason::Forbidden));
+    /// assert_eq!(Reason::from_number(0), Err(Refusal::Number));
     /// ```
-    pub const fn from_number(number: u8) -> Option<Self> {
-        match number {
-            1 => Some(Self::Occupied),
-            2 => Some(Self::Forbidden),
-            3 => Some(Self::AfterFive),
-            _ => None,
+    pub const fn from_number(number: u8) -> Result<Self, Refusal> {
+        Ok(match number {
+            1 => Self::Occupied,
+            2 => Self::Forbidden,
+            3 => Self::AfterFive,
+            _ => return Err(Refusal::Number),
+        })
+    }
+
+    /// `occupied`, `forbidden` or `after a five`.
+    ///
+    /// ```
+    /// assert_eq!(renju::Reason::AfterFive.to_string(), "after a five");
+    /// ```
+    #[must_use]
+    pub const fn name(self) -> &'static str {
+        match self {
+            Self::Occupied => "occupied",
+            Self::Forbidden => "forbidden",
+            Self::AfterFive => "after a five",
         }
     }
 }
 
-/// `occupied`, `forbidden` or `after a five`.
-///
-/// ```
-/// assert_eq!(renju::Reason::AfterFive.to_string(), "after a five");
-/// ```
-impl fmt::Display for Reason {
-    fn fmt(&self, f: &mut fmt::Formatter<'_>) -> fmt::Result {
-        f.pad(match self {
-            Self::Occupied => "occupied",
-            Self::Forbidden => "forbidden",
-            Self::AfterFive => "after a five",
-        })
-    }
-}
+numbered_and_named!(Reason);
 
 /// The first faulty move of a game.
 ///
@@ -240,7 +314,7 @@ impl fmt::Display for Reason {
 /// assert_eq!(fault.map(|fault| fault.to_string()), Some("move 3 (H8): occupied".to_string()));
 /// # Ok::<(), renju::Refusal>(())
 /// ```
-#[derive(Clone, Copy, Debug, PartialEq, Eq, Hash)]
+#[derive(Clone, Copy, Debug, PartialEq, Eq, PartialOrd, Ord, Hash)]
 pub struct Fault {
     /// Its number, from 1: Black's are odd.
     pub number: u8,
@@ -253,7 +327,12 @@ pub struct Fault {
 /// `move 3 (H8): occupied`.
 impl fmt::Display for Fault {
     fn fmt(&self, f: &mut fmt::Formatter<'_>) -> fmt::Result {
-        write!(f, "move {} ({}): {}", self.number, self.point, self.reason)
+        let Self {
+            number,
+            point,
+            reason,
+        } = self;
+        pad(f, format_args!("move {number} ({point}): {reason}"))
     }
 }
 
@@ -285,11 +364,41 @@ impl fmt::Display for Report {
     fn fmt(&self, f: &mut fmt::Formatter<'_>) -> fmt::Result {
         match (self.fault, self.winner) {
             (Some(fault), _) if fault.reason == Reason::Forbidden => {
-                write!(f, "{fault}, {}", self.cells.verdict(fault.point))
+                let verdict = self.cells.verdict(fault.point);
+                pad(f, format_args!("{fault}, {verdict}"))
             }
-            (Some(fault), _) => write!(f, "{fault}"),
-            (None, Some(colour)) => write!(f, "no fault, {colour} has won"),
-            (None, None) => f.write_str("no fault, nobody has won"),
+            (Some(fault), _) => fault.fmt(f),
+            (None, Some(colour)) => pad(f, format_args!("no fault, {colour} has won")),
+            (None, None) => f.pad("no fault, nobody has won"),
         }
+    }
+}
+
+#[cfg(test)]
+mod tests {
+    use super::{Moves, Reason};
+
+    fn one() -> Moves {
+        Moves::from_codes(&[112]).expect("a game")
+    }
+
+    #[test]
+    fn a_fault_by_its_number() {
+        assert_eq!(one().fault(0, 0), None);
+        let fault = one().fault(1, 2).expect("a fault");
+        assert_eq!((fault.number, fault.reason), (1, Reason::Forbidden));
+        assert_eq!(fault.point.code(), 112);
+    }
+
+    #[test]
+    #[cfg_attr(debug_assertions, should_panic = "the archive gave fault 2")]
+    fn no_fault_past_the_end() {
+        assert_eq!(one().fault(2, 1), None);
+    }
+
+    #[test]
+    #[cfg_attr(debug_assertions, should_panic = "the archive gave fault 1")]
+    fn no_fault_without_a_reason() {
+        assert_eq!(one().fault(1, 0), None);
     }
 }

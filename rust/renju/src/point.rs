@@ -1,10 +1,11 @@
 //! The 225 points of the board.
 
-use crate::raw::renju_turn_point;
-use crate::refusal::given;
-use crate::{CELLS, Cells, Colour, Refusal, SIDE, View};
-use std::fmt;
-use std::str::FromStr;
+use crate::named::pad;
+use crate::raw::{renju_read_point, renju_turn_point};
+use crate::refusal::{answer, given};
+use crate::{CELLS, Refusal, SIDE, View};
+use core::fmt;
+use core::str::FromStr;
 
 /// A point of the board: column x and row y, each 0 to 14.
 ///
@@ -25,7 +26,11 @@ use std::str::FromStr;
 pub struct Point(u8);
 
 impl Point {
-    /// The point of column `x` and row `y`; refusal 8 where one is over 14.
+    /// The point of column `x` and row `y`.
+    ///
+    /// # Errors
+    ///
+    /// Refusal 8 where one is over 14.
     ///
     /// ```
     /// use renju::{Point, Refusal};
@@ -42,7 +47,11 @@ impl Point {
         }
     }
 
-    /// The point of a code; refusal 8 for one over 224.
+    /// The point of a code.
+    ///
+    /// # Errors
+    ///
+    /// Refusal 8 for one over 224.
     ///
     /// ```
     /// use renju::{Point, Refusal};
@@ -61,7 +70,34 @@ impl Point {
 
     /// The point of a code that the archive gave: below 225, by contract.
     pub(crate) const fn given(code: u8) -> Self {
+        debug_assert!((code as usize) < CELLS, "the archive gave a code over 224");
         Self(code)
+    }
+
+    /// The point of a word's answer that is a code: the low byte has it whole.
+    fn of_answer(answer: u16) -> Self {
+        debug_assert!(answer < 225, "the archive gave code {answer}");
+        Self::given(answer as u8)
+    }
+
+    /// The point that a text names, alone in it: one letter A to O or a to o and
+    /// one or two digits that are a number 1 to 15, with space around them; no
+    /// sign, and nothing behind. `parse` reads the same.
+    ///
+    /// # Errors
+    ///
+    /// Refusals 1 and 2 are for bytes that can be no text, 3 for the letter, 4
+    /// for what is behind it.
+    ///
+    /// ```
+    /// use renju::{Point, Refusal};
+    ///
+    /// assert_eq!(Point::read(b"h08")?.to_string(), "H8");
+    /// assert_eq!(Point::read(b"H8,I9"), Err(Refusal::YPart));
+    /// # Ok::<(), renju::Refusal>(())
+    /// ```
+    pub fn read(text: &[u8]) -> Result<Self, Refusal> {
+        answer(renju_read_point(text)).map(Self::of_answer)
     }
 
     /// All points, by code.
@@ -82,6 +118,7 @@ impl Point {
     /// assert_eq!(renju::Point::new(7, 7)?.code(), 112);
     /// # Ok::<(), renju::Refusal>(())
     /// ```
+    #[must_use]
     pub const fn code(self) -> u8 {
         self.0
     }
@@ -92,6 +129,7 @@ impl Point {
     /// assert_eq!("C15".parse::<renju::Point>()?.x(), 2);
     /// # Ok::<(), renju::Refusal>(())
     /// ```
+    #[must_use]
     pub const fn x(self) -> u8 {
         self.0 / SIDE
     }
@@ -102,6 +140,7 @@ impl Point {
     /// assert_eq!("C15".parse::<renju::Point>()?.y(), 14);
     /// # Ok::<(), renju::Refusal>(())
     /// ```
+    #[must_use]
     pub const fn y(self) -> u8 {
         self.0 % SIDE
     }
@@ -115,15 +154,13 @@ impl Point {
     /// assert_eq!(c15.turned(View::LeftRight), "M15".parse()?);
     /// # Ok::<(), renju::Refusal>(())
     /// ```
+    #[must_use]
     pub fn turned(self, view: View) -> Self {
-        // A turned code is a code, so the low byte has it whole.
-        Self::given(given(renju_turn_point(self.0, view.number())) as u8)
+        Self::of_answer(given(renju_turn_point(self.0, view.number())))
     }
 }
 
-/// A point is read as the texts of boards have it: one letter A to O or a to o
-/// and one or two digits that are a number 1 to 15, with space around them; no
-/// sign, and nothing behind. A text of over 2,047 bytes is refused 1.
+/// As [`Point::read`].
 ///
 /// ```
 /// use renju::{Point, Refusal};
@@ -137,15 +174,8 @@ impl Point {
 impl FromStr for Point {
     type Err = Refusal;
 
-    // There is no second reader of points here: the proved one is handed the
-    // point as two moves, Black's and White's, and White's stone then shows
-    // where it is. A comma or a slash would part the text, so each is handed
-    // over as a dot, which like them is no space, letter or digit.
     fn from_str(text: &str) -> Result<Self, Refusal> {
-        let point = text.replace([',', '/'], ".");
-        let cells = Cells::read(format!("{point},{point}").as_bytes())?;
-        let stone = cells.stones(Colour::White).first().copied();
-        stone.ok_or(Refusal::XPart)
+        Self::read(text.as_bytes())
     }
 }
 
@@ -169,8 +199,32 @@ impl From<Point> for u8 {
     }
 }
 
+/// `H8`.
 impl fmt::Display for Point {
     fn fmt(&self, f: &mut fmt::Formatter<'_>) -> fmt::Result {
-        write!(f, "{}{}", char::from(b'A' + self.x()), self.y() + 1)
+        let letter = char::from(b'A' + self.x());
+        pad(f, format_args!("{letter}{}", self.y() + 1))
+    }
+}
+
+#[cfg(test)]
+mod tests {
+    use super::Point;
+
+    #[test]
+    fn every_code_is_given() {
+        assert!((0..225).map(Point::of_answer).eq(Point::all()));
+    }
+
+    #[test]
+    #[cfg_attr(debug_assertions, should_panic = "the archive gave a code over 224")]
+    fn no_other_code_is_given() {
+        assert_eq!(Point::given(225).code(), 225);
+    }
+
+    #[test]
+    #[cfg_attr(debug_assertions, should_panic = "the archive gave code 256")]
+    fn no_longer_code_is_given() {
+        assert_eq!(Point::of_answer(256).code(), 0);
     }
 }

@@ -16,6 +16,7 @@ impl Cells {
     /// assert_eq!(blacks.as_slice(), ["H8".parse()?, "J10".parse()?]);
     /// # Ok::<(), renju::Refusal>(())
     /// ```
+    #[must_use]
     pub fn stones(&self, colour: Colour) -> Points {
         let mut codes = [0; CELLS];
         let count = given(raw::renju_stones(&self.bytes, colour.number(), &mut codes));
@@ -29,6 +30,7 @@ impl Cells {
     /// assert_eq!(cells.empty_points().len(), 223);
     /// # Ok::<(), renju::Refusal>(())
     /// ```
+    #[must_use]
     pub fn empty_points(&self) -> Points {
         let mut codes = [0; CELLS];
         let count = given(raw::renju_empty_points(&self.bytes, &mut codes));
@@ -37,6 +39,9 @@ impl Cells {
 
     /// The points up to a distance on the four lines through a point, line by
     /// line, the point itself on each; only the empty ones if so asked.
+    ///
+    /// # Errors
+    ///
     /// Refusal 12 for a distance over 14.
     ///
     /// ```
@@ -79,6 +84,7 @@ impl Cells {
     /// assert_eq!(keys, [7, 7, 7, 22, 22, 22]);
     /// # Ok::<(), renju::Refusal>(())
     /// ```
+    #[must_use]
     pub fn rows(&self, colour: Colour, kind: Kind) -> Rows {
         FAST.rows(self, colour, kind)
     }
@@ -94,6 +100,7 @@ impl Cells {
     /// assert_eq!(swords.len(), 4);
     /// # Ok::<(), renju::Refusal>(())
     /// ```
+    #[must_use]
     pub fn rows_on(&self, point: Point, colour: Colour, kind: Kind) -> RowsOn {
         FAST.rows_on(self, point, colour, kind)
     }
@@ -109,12 +116,17 @@ impl Cells {
     /// assert_eq!(eyes.as_slice(), ["D8".parse()?, "I8".parse()?]);
     /// # Ok::<(), renju::Refusal>(())
     /// ```
+    #[must_use]
     pub fn four_eyes_on(&self, point: Point, colour: Colour) -> Points {
         FAST.four_eyes_on(self, point, colour)
     }
 
     /// The plain verdict on a black stone at an empty point, whether or not
-    /// it completes a five; refusal 11 at an occupied point.
+    /// it completes a five.
+    ///
+    /// # Errors
+    ///
+    /// Refusal 11 at an occupied point.
     ///
     /// ```
     /// use renju::{Cells, Refusal, Verdict};
@@ -142,6 +154,7 @@ impl Cells {
     /// assert_eq!(cells.verdict("H8".parse()?), Verdict::None);
     /// # Ok::<(), renju::Refusal>(())
     /// ```
+    #[must_use]
     pub fn verdict(&self, point: Point) -> Verdict {
         FAST.verdict(self, point)
     }
@@ -159,6 +172,7 @@ impl Cells {
     /// assert_eq!(cells.depth("A1".parse()?), 0);
     /// # Ok::<(), renju::Refusal>(())
     /// ```
+    #[must_use]
     pub fn depth(&self, point: Point) -> u8 {
         // The depth is the answer's high byte, the verdict its low one.
         (given(raw::renju_depth(&self.bytes, point.code())) >> 8) as u8
@@ -177,6 +191,7 @@ impl Cells {
     /// assert_eq!(crosses[0].verdict, Verdict::DoubleThree);
     /// # Ok::<(), renju::Refusal>(())
     /// ```
+    #[must_use]
     pub fn forbidden_points(&self) -> Crosses {
         FAST.forbidden_points(self)
     }

@@ -3,9 +3,9 @@
 //!
 //! They are for callers that keep their own buffers. Any bytes and numbers may be handed to them. A
 //! refusal leaves every lent byte as it was; an answer writes its own leading bytes of the lent
-//! buffer ([`renju_put`], [`renju_remove`], [`renju_feed_take`]: one byte) and no other. Cells are 225 bytes in code
-//! order, 0 empty, 1 black, 2 white. What each can refuse is said with it; where several apply, the
-//! first named is given.
+//! buffer ([`renju_put`], [`renju_remove`], [`renju_feed_take`]: one byte) and no other. No pointer is
+//! kept. Cells are 225 bytes in code order, 0 empty, 1 black, 2 white. What each can refuse is said
+//! with it; where several apply, the first named is given.
 //!
 //! # Examples
 //!
@@ -23,9 +23,33 @@
 
 pub use crate::refusal::answer;
 
+/// The version of the host interface that this crate was written for, 2: it is one more whenever a
+/// function is added, removed or changed. The archive carries it in a symbol's name,
+/// [`renju_interface_2`], which the crate refers to, so that it links with no other version.
+///
+/// ```
+/// use renju::raw;
+///
+/// assert_eq!(raw::renju_interface_2(), raw::INTERFACE);
+/// ```
+pub const INTERFACE: u32 = 2;
+
+// Kept in every program that links the crate, also where nothing calls it: an archive of another
+// version has no such symbol, and the linker says so. `build.rs` says it earlier, and in words.
+#[used]
+static LINKED: extern "C" fn() -> u32 = ffi::renju_interface_2;
+
 mod ffi {
     // A slice is two arguments: its pointer, then its length.
     unsafe extern "C" {
+        /// The version of the interface, which is its name's too: 2. Never refused.
+        ///
+        /// ```
+        /// assert_eq!(renju::raw::renju_interface_2(), 2);
+        /// ```
+        #[must_use]
+        pub safe fn renju_interface_2() -> u32;
+        pub fn renju_read_point(text: *const u8, text_len: usize) -> u32;
         pub fn renju_read(
             text: *const u8,
             text_len: usize,
@@ -110,6 +134,12 @@ mod ffi {
             out: *mut u8,
             out_len: usize,
         ) -> u32;
+        pub fn renju_canonical(
+            cells: *const u8,
+            cells_len: usize,
+            out: *mut u8,
+            out_len: usize,
+        ) -> u32;
         /// Where a view sends a point: the turned code. Refusals 8, 12.
         ///
         /// ```
@@ -118,8 +148,9 @@ mod ffi {
         /// assert_eq!(renju_turn_point(0, 1), 14);
         /// assert_eq!(renju_turn_point(225, 1), 8 << 16);
         /// ```
+        #[must_use]
         pub safe fn renju_turn_point(code: u8, view: u8) -> u32;
-        /// The view that equals a view followed by the next one. Refusal 12.
+        /// The view that equals the first followed by the second. Refusal 12.
         ///
         /// ```
         /// # use renju::raw::*;
@@ -127,7 +158,8 @@ mod ffi {
         /// assert_eq!(renju_view_then(1, 4), 7);
         /// assert_eq!(renju_view_then(8, 0), 12 << 16);
         /// ```
-        pub safe fn renju_view_then(view: u8, next: u8) -> u32;
+        #[must_use]
+        pub safe fn renju_view_then(first: u8, second: u8) -> u32;
         /// The view that takes a view back. Refusal 12.
         ///
         /// ```
@@ -135,6 +167,7 @@ mod ffi {
         /// assert_eq!(renju_view_back(1), 3);
         /// assert_eq!(renju_view_back(8), 12 << 16);
         /// ```
+        #[must_use]
         pub safe fn renju_view_back(view: u8) -> u32;
         /// Where a colour's rows of a kind start on a line alone: a mask, bit j for
         /// cell j. Refusals 10 (size), 9, 12.
@@ -145,6 +178,7 @@ mod ffi {
         /// assert_eq!(renju_line_starts(0b11100, 0, 15, 1, 1), 0b110);
         /// assert_eq!(renju_line_starts(0b11100, 0, 4, 1, 1), 10 << 16);
         /// ```
+        #[must_use]
         pub safe fn renju_line_starts(
             blacks: u16,
             whites: u16,
@@ -160,6 +194,7 @@ mod ffi {
         /// assert_eq!(renju_line_starts_on(0b11100, 0, 15, 1, 1, 1), 0b010);
         /// assert_eq!(renju_line_starts_on(0b11100, 0, 15, 1, 1, 15), 10 << 16);
         /// ```
+        #[must_use]
         pub safe fn renju_line_starts_on(
             blacks: u16,
             whites: u16,
@@ -177,6 +212,7 @@ mod ffi {
         /// assert_eq!(renju_line_eyes(0b01111, 0, 5, 1, 4), 0b10000);
         /// assert_eq!(renju_line_eyes(0b01111, 0b00001, 5, 1, 4), 9 << 16);
         /// ```
+        #[must_use]
         pub safe fn renju_line_eyes(
             blacks: u16,
             whites: u16,
@@ -286,12 +322,23 @@ mod ffi {
     }
 }
 
+pub use ffi::renju_interface_2;
 pub use ffi::{renju_line_eyes, renju_line_starts, renju_line_starts_on, renju_turn_point};
 pub use ffi::{renju_view_back, renju_view_then};
 
-// SAFETY of every call below: a slice's pointer and length name bytes that may be read, and
-// written where the slice is `&mut`, until the call returns; the functions keep no pointer and
-// touch no byte outside.
+/// The code of the point that a text names, alone in it. Refusals 1, 2, 3, 4.
+///
+/// ```
+/// # use renju::raw::*;
+/// assert_eq!(renju_read_point(b" h08"), 112);
+/// assert_eq!(renju_read_point(b"P8"), 3 << 16);
+/// assert_eq!(renju_read_point(b"H8,I9"), 4 << 16);
+/// ```
+#[must_use]
+pub fn renju_read_point(text: &[u8]) -> u32 {
+    // SAFETY: each pointer has its own slice's length, and no byte is written.
+    unsafe { ffi::renju_read_point(text.as_ptr(), text.len()) }
+}
 
 /// The board that a text says, stones or moves: 225, its cells written. A lone
 /// point is one move. Refusals 1, 2, of 3 and 4 the first that the reading meets,
@@ -306,7 +353,9 @@ pub use ffi::{renju_view_back, renju_view_then};
 /// assert_eq!((cells[112], cells[128]), (1, 0));
 /// assert_eq!(renju_read(b"H8,P9", &mut cells), 3 << 16);
 /// ```
+#[must_use]
 pub fn renju_read(text: &[u8], cells: &mut [u8]) -> u32 {
+    // SAFETY: each pointer has its own slice's length, and what is written is lent as `&mut`.
     unsafe { ffi::renju_read(text.as_ptr(), text.len(), cells.as_mut_ptr(), cells.len()) }
 }
 
@@ -321,7 +370,9 @@ pub fn renju_read(text: &[u8], cells: &mut [u8]) -> u32 {
 /// assert_eq!(renju_read_diagram(text.as_bytes(), &mut cells), 225);
 /// assert_eq!((cells[0], cells[112], cells[224]), (1, 0, 2));
 /// ```
+#[must_use]
 pub fn renju_read_diagram(text: &[u8], cells: &mut [u8]) -> u32 {
+    // SAFETY: each pointer has its own slice's length, and what is written is lent as `&mut`.
     unsafe { ffi::renju_read_diagram(text.as_ptr(), text.len(), cells.as_mut_ptr(), cells.len()) }
 }
 
@@ -338,7 +389,9 @@ pub fn renju_read_diagram(text: &[u8], cells: &mut [u8]) -> u32 {
 /// assert!(out.starts_with(b"A1,H8/I9"));
 /// assert_eq!(renju_convert(&diagram, &mut out[..7]), 13 << 16);
 /// ```
+#[must_use]
 pub fn renju_convert(text: &[u8], out: &mut [u8]) -> u32 {
+    // SAFETY: each pointer has its own slice's length, and what is written is lent as `&mut`.
     unsafe { ffi::renju_convert(text.as_ptr(), text.len(), out.as_mut_ptr(), out.len()) }
 }
 
@@ -353,7 +406,9 @@ pub fn renju_convert(text: &[u8], out: &mut [u8]) -> u32 {
 /// // Row 15 comes first.
 /// assert!(out.starts_with(b" . . . . . . . . . . . . . . .\n"));
 /// ```
+#[must_use]
 pub fn renju_to_string(cells: &[u8], out: &mut [u8]) -> u32 {
+    // SAFETY: each pointer has its own slice's length, and what is written is lent as `&mut`.
     unsafe { ffi::renju_to_string(cells.as_ptr(), cells.len(), out.as_mut_ptr(), out.len()) }
 }
 
@@ -367,7 +422,9 @@ pub fn renju_to_string(cells: &[u8], out: &mut [u8]) -> u32 {
 /// assert_eq!(renju_to_pretty_string(&cells, &mut out), 527);
 /// assert!(out.starts_with(b"15 . . ."));
 /// ```
+#[must_use]
 pub fn renju_to_pretty_string(cells: &[u8], out: &mut [u8]) -> u32 {
+    // SAFETY: each pointer has its own slice's length, and what is written is lent as `&mut`.
     unsafe { ffi::renju_to_pretty_string(cells.as_ptr(), cells.len(), out.as_mut_ptr(), out.len()) }
 }
 
@@ -380,7 +437,9 @@ pub fn renju_to_pretty_string(cells: &[u8], out: &mut [u8]) -> u32 {
 /// assert_eq!(cells[112], 1);
 /// assert_eq!(renju_put(&mut cells, 112, 3), 12 << 16);
 /// ```
+#[must_use]
 pub fn renju_put(cells: &mut [u8], code: u8, colour: u8) -> u32 {
+    // SAFETY: each pointer has its own slice's length, and what is written is lent as `&mut`.
     unsafe { ffi::renju_put(cells.as_mut_ptr(), cells.len(), code, colour) }
 }
 
@@ -394,7 +453,9 @@ pub fn renju_put(cells: &mut [u8], code: u8, colour: u8) -> u32 {
 /// assert_eq!(cells[112], 0);
 /// assert_eq!(renju_remove(&mut cells, 225), 8 << 16);
 /// ```
+#[must_use]
 pub fn renju_remove(cells: &mut [u8], code: u8) -> u32 {
+    // SAFETY: each pointer has its own slice's length, and what is written is lent as `&mut`.
     unsafe { ffi::renju_remove(cells.as_mut_ptr(), cells.len(), code) }
 }
 
@@ -409,7 +470,9 @@ pub fn renju_remove(cells: &mut [u8], code: u8) -> u32 {
 /// assert_eq!(renju_stones(&cells, 1, &mut out), 4);
 /// assert_eq!(out[..4], [97, 111, 113, 127]);
 /// ```
+#[must_use]
 pub fn renju_stones(cells: &[u8], colour: u8, out: &mut [u8]) -> u32 {
+    // SAFETY: each pointer has its own slice's length, and what is written is lent as `&mut`.
     unsafe {
         ffi::renju_stones(
             cells.as_ptr(),
@@ -432,7 +495,9 @@ pub fn renju_stones(cells: &[u8], colour: u8, out: &mut [u8]) -> u32 {
 /// // A1 has a stone.
 /// assert_eq!(out[0], 1);
 /// ```
+#[must_use]
 pub fn renju_empty_points(cells: &[u8], out: &mut [u8]) -> u32 {
+    // SAFETY: each pointer has its own slice's length, and what is written is lent as `&mut`.
     unsafe { ffi::renju_empty_points(cells.as_ptr(), cells.len(), out.as_mut_ptr(), out.len()) }
 }
 
@@ -446,6 +511,7 @@ pub fn renju_empty_points(cells: &[u8], out: &mut [u8]) -> u32 {
 /// assert_eq!(renju_neighbors(&cells, 0, 1, false, &mut out), 7);
 /// assert_eq!(out[..7], [0, 1, 0, 15, 0, 16, 0]);
 /// ```
+#[must_use]
 pub fn renju_neighbors(
     cells: &[u8],
     code: u8,
@@ -453,6 +519,7 @@ pub fn renju_neighbors(
     only_empty: bool,
     out: &mut [u8],
 ) -> u32 {
+    // SAFETY: each pointer has its own slice's length, and what is written is lent as `&mut`.
     unsafe {
         ffi::renju_neighbors(
             cells.as_ptr(),
@@ -478,7 +545,9 @@ pub fn renju_neighbors(
 /// assert_eq!(renju_rows(&cells, 1, 4, &mut out), 1);
 /// assert_eq!(out[..4], [22, 3, 0b11110, 0b00001]);
 /// ```
+#[must_use]
 pub fn renju_rows(cells: &[u8], colour: u8, kind: u8, out: &mut [u8]) -> u32 {
+    // SAFETY: each pointer has its own slice's length, and what is written is lent as `&mut`.
     unsafe {
         ffi::renju_rows(
             cells.as_ptr(),
@@ -503,7 +572,9 @@ pub fn renju_rows(cells: &[u8], colour: u8, kind: u8, out: &mut [u8]) -> u32 {
 /// assert_eq!(renju_rows_on(&cells, 52, 1, 4, &mut out), 1);
 /// assert_eq!(renju_rows_on(&cells, 37, 1, 4, &mut out), 0);
 /// ```
+#[must_use]
 pub fn renju_rows_on(cells: &[u8], code: u8, colour: u8, kind: u8, out: &mut [u8]) -> u32 {
+    // SAFETY: each pointer has its own slice's length, and what is written is lent as `&mut`.
     unsafe {
         ffi::renju_rows_on(
             cells.as_ptr(),
@@ -529,7 +600,9 @@ pub fn renju_rows_on(cells: &[u8], code: u8, colour: u8, kind: u8, out: &mut [u8
 /// assert_eq!(renju_four_eyes_on(&cells, 82, 1, &mut out), 2);
 /// assert_eq!(out[..2], [52, 127]);
 /// ```
+#[must_use]
 pub fn renju_four_eyes_on(cells: &[u8], code: u8, colour: u8, out: &mut [u8]) -> u32 {
+    // SAFETY: each pointer has its own slice's length, and what is written is lent as `&mut`.
     unsafe {
         ffi::renju_four_eyes_on(
             cells.as_ptr(),
@@ -552,7 +625,9 @@ pub fn renju_four_eyes_on(cells: &[u8], code: u8, colour: u8, out: &mut [u8]) ->
 /// assert_eq!(renju_forbidden(&cells, 112), 1);
 /// assert_eq!(renju_forbidden(&cells, 0), 11 << 16);
 /// ```
+#[must_use]
 pub fn renju_forbidden(cells: &[u8], code: u8) -> u32 {
+    // SAFETY: each pointer has its own slice's length, and no byte is written.
     unsafe { ffi::renju_forbidden(cells.as_ptr(), cells.len(), code) }
 }
 
@@ -566,7 +641,9 @@ pub fn renju_forbidden(cells: &[u8], code: u8) -> u32 {
 /// assert_eq!(renju_forbidden_strict(&cells, 112), 1);
 /// assert_eq!(renju_forbidden_strict(&cells, 0), 0);
 /// ```
+#[must_use]
 pub fn renju_forbidden_strict(cells: &[u8], code: u8) -> u32 {
+    // SAFETY: each pointer has its own slice's length, and no byte is written.
     unsafe { ffi::renju_forbidden_strict(cells.as_ptr(), cells.len(), code) }
 }
 
@@ -581,7 +658,9 @@ pub fn renju_forbidden_strict(cells: &[u8], code: u8) -> u32 {
 /// assert_eq!(renju_depth(&cells, 112), 2 * 256 + 1);
 /// assert_eq!(renju_depth(&cells, 0), 0);
 /// ```
+#[must_use]
 pub fn renju_depth(cells: &[u8], code: u8) -> u32 {
+    // SAFETY: each pointer has its own slice's length, and no byte is written.
     unsafe { ffi::renju_depth(cells.as_ptr(), cells.len(), code) }
 }
 
@@ -596,7 +675,9 @@ pub fn renju_depth(cells: &[u8], code: u8) -> u32 {
 /// assert_eq!(renju_forbidden_points(&cells, &mut out), 1);
 /// assert_eq!(out[..2], [1, 112]);
 /// ```
+#[must_use]
 pub fn renju_forbidden_points(cells: &[u8], out: &mut [u8]) -> u32 {
+    // SAFETY: each pointer has its own slice's length, and what is written is lent as `&mut`.
     unsafe { ffi::renju_forbidden_points(cells.as_ptr(), cells.len(), out.as_mut_ptr(), out.len()) }
 }
 
@@ -616,7 +697,9 @@ pub fn renju_forbidden_points(cells: &[u8], out: &mut [u8]) -> u32 {
 /// assert_eq!(renju_game(&[112, 225], &mut out), 8 << 16);
 /// assert_eq!(renju_game(&[225; 226], &mut out), 14 << 16);
 /// ```
+#[must_use]
 pub fn renju_game(moves: &[u8], out: &mut [u8]) -> u32 {
+    // SAFETY: each pointer has its own slice's length, and what is written is lent as `&mut`.
     unsafe { ffi::renju_game(moves.as_ptr(), moves.len(), out.as_mut_ptr(), out.len()) }
 }
 
@@ -631,7 +714,9 @@ pub fn renju_game(moves: &[u8], out: &mut [u8]) -> u32 {
 /// // White's stone at A1 is at A15 now.
 /// assert_eq!(out[14], 2);
 /// ```
+#[must_use]
 pub fn renju_turn(cells: &[u8], view: u8, out: &mut [u8]) -> u32 {
+    // SAFETY: each pointer has its own slice's length, and what is written is lent as `&mut`.
     unsafe {
         ffi::renju_turn(
             cells.as_ptr(),
@@ -641,6 +726,25 @@ pub fn renju_turn(cells: &[u8], view: u8, out: &mut [u8]) -> u32 {
             out.len(),
         )
     }
+}
+
+/// The least of the eight turned boards by its cell bytes: the first view that gives it, its 225 cells
+/// written. Refusals 9, 13.
+///
+/// ```
+/// # use renju::raw::*;
+/// let mut cells = [0; 225];
+/// // Black in a corner, A1; of the four corners O15 comes last.
+/// assert_eq!(renju_put(&mut cells, 0, 1), 0);
+/// let mut out = [0; 225];
+/// assert_eq!(renju_canonical(&cells, &mut out), 2);
+/// assert_eq!((out[0], out[224]), (0, 1));
+/// assert_eq!(renju_canonical(&cells, &mut out[..224]), 13 << 16);
+/// ```
+#[must_use]
+pub fn renju_canonical(cells: &[u8], out: &mut [u8]) -> u32 {
+    // SAFETY: each pointer has its own slice's length, and what is written is lent as `&mut`.
+    unsafe { ffi::renju_canonical(cells.as_ptr(), cells.len(), out.as_mut_ptr(), out.len()) }
 }
 
 /// As [`renju_rows`], by the second referee, which is slow: it walks the cells
@@ -654,7 +758,9 @@ pub fn renju_turn(cells: &[u8], view: u8, out: &mut [u8]) -> u32 {
 /// assert_eq!(renju_second_rows(&cells, 1, 4, &mut out), 1);
 /// assert_eq!(out[..4], [22, 3, 0b11110, 0b00001]);
 /// ```
+#[must_use]
 pub fn renju_second_rows(cells: &[u8], colour: u8, kind: u8, out: &mut [u8]) -> u32 {
+    // SAFETY: each pointer has its own slice's length, and what is written is lent as `&mut`.
     unsafe {
         ffi::renju_second_rows(
             cells.as_ptr(),
@@ -678,7 +784,9 @@ pub fn renju_second_rows(cells: &[u8], colour: u8, kind: u8, out: &mut [u8]) -> 
 /// assert_eq!(renju_second_rows_on(&cells, 52, 1, 4, &mut out), 1);
 /// assert_eq!(renju_second_rows_on(&cells, 37, 1, 4, &mut out), 0);
 /// ```
+#[must_use]
 pub fn renju_second_rows_on(cells: &[u8], code: u8, colour: u8, kind: u8, out: &mut [u8]) -> u32 {
+    // SAFETY: each pointer has its own slice's length, and what is written is lent as `&mut`.
     unsafe {
         ffi::renju_second_rows_on(
             cells.as_ptr(),
@@ -702,7 +810,9 @@ pub fn renju_second_rows_on(cells: &[u8], code: u8, colour: u8, kind: u8, out: &
 /// assert_eq!(renju_second_four_eyes_on(&cells, 82, 1, &mut out), 2);
 /// assert_eq!(out[..2], [52, 127]);
 /// ```
+#[must_use]
 pub fn renju_second_four_eyes_on(cells: &[u8], code: u8, colour: u8, out: &mut [u8]) -> u32 {
+    // SAFETY: each pointer has its own slice's length, and what is written is lent as `&mut`.
     unsafe {
         ffi::renju_second_four_eyes_on(
             cells.as_ptr(),
@@ -724,7 +834,9 @@ pub fn renju_second_four_eyes_on(cells: &[u8], code: u8, colour: u8, out: &mut [
 /// assert_eq!(renju_second_forbidden(&cells, 112), 1);
 /// assert_eq!(renju_second_forbidden(&cells, 0), 11 << 16);
 /// ```
+#[must_use]
 pub fn renju_second_forbidden(cells: &[u8], code: u8) -> u32 {
+    // SAFETY: each pointer has its own slice's length, and no byte is written.
     unsafe { ffi::renju_second_forbidden(cells.as_ptr(), cells.len(), code) }
 }
 
@@ -737,7 +849,9 @@ pub fn renju_second_forbidden(cells: &[u8], code: u8) -> u32 {
 /// assert_eq!(renju_second_forbidden_strict(&cells, 112), 1);
 /// assert_eq!(renju_second_forbidden_strict(&cells, 0), 0);
 /// ```
+#[must_use]
 pub fn renju_second_forbidden_strict(cells: &[u8], code: u8) -> u32 {
+    // SAFETY: each pointer has its own slice's length, and no byte is written.
     unsafe { ffi::renju_second_forbidden_strict(cells.as_ptr(), cells.len(), code) }
 }
 
@@ -751,7 +865,9 @@ pub fn renju_second_forbidden_strict(cells: &[u8], code: u8) -> u32 {
 /// assert_eq!(renju_second_forbidden_points(&cells, &mut out), 1);
 /// assert_eq!(out[..2], [1, 112]);
 /// ```
+#[must_use]
 pub fn renju_second_forbidden_points(cells: &[u8], out: &mut [u8]) -> u32 {
+    // SAFETY: each pointer has its own slice's length, and what is written is lent as `&mut`.
     unsafe {
         ffi::renju_second_forbidden_points(cells.as_ptr(), cells.len(), out.as_mut_ptr(), out.len())
     }
@@ -767,7 +883,9 @@ pub fn renju_second_forbidden_points(cells: &[u8], out: &mut [u8]) -> u32 {
 /// assert_eq!(out[..9], [1, 0, 1, 0, 2, 0, 2, 112, 113]);
 /// assert_eq!(renju_to_tagged(&[112, 225], 8, &mut out), 8 << 16);
 /// ```
+#[must_use]
 pub fn renju_to_tagged(moves: &[u8], view: u8, out: &mut [u8]) -> u32 {
+    // SAFETY: each pointer has its own slice's length, and what is written is lent as `&mut`.
     unsafe {
         ffi::renju_to_tagged(
             moves.as_ptr(),
@@ -790,7 +908,9 @@ pub fn renju_to_tagged(moves: &[u8], view: u8, out: &mut [u8]) -> u32 {
 /// assert_eq!(renju_from_tagged(&[1, 0, 1, 4, 2, 0, 1, 112], &mut out), 16 << 16);
 /// assert_eq!(renju_from_tagged(&[112, 113], &mut out), 15 << 16);
 /// ```
+#[must_use]
 pub fn renju_from_tagged(record: &[u8], out: &mut [u8]) -> u32 {
+    // SAFETY: each pointer has its own slice's length, and what is written is lent as `&mut`.
     unsafe { ffi::renju_from_tagged(record.as_ptr(), record.len(), out.as_mut_ptr(), out.len()) }
 }
 
@@ -801,7 +921,9 @@ pub fn renju_from_tagged(record: &[u8], out: &mut [u8]) -> u32 {
 /// assert_eq!(renju_tagged_view(&[1, 0, 1, 4, 2, 0, 1, 112]), 4);
 /// assert_eq!(renju_tagged_view(&[1, 0, 1, 8, 2, 0, 1, 112]), 15 << 16);
 /// ```
+#[must_use]
 pub fn renju_tagged_view(record: &[u8]) -> u32 {
+    // SAFETY: each pointer has its own slice's length, and no byte is written.
     unsafe { ffi::renju_tagged_view(record.as_ptr(), record.len()) }
 }
 
@@ -816,7 +938,9 @@ pub fn renju_tagged_view(record: &[u8]) -> u32 {
 /// assert_eq!(renju_counts(&cells), 2 << 8 | 1);
 /// assert_eq!(renju_counts(&cells[1..]), 9 << 16);
 /// ```
+#[must_use]
 pub fn renju_counts(cells: &[u8]) -> u32 {
+    // SAFETY: each pointer has its own slice's length, and no byte is written.
     unsafe { ffi::renju_counts(cells.as_ptr(), cells.len()) }
 }
 
@@ -834,6 +958,7 @@ pub fn renju_counts(cells: &[u8]) -> u32 {
 /// assert_eq!(renju_feed_take(7, &mut held, 1, 8, 1, 112), 17 << 16);
 /// assert_eq!(held[..2], [112, 0]);
 /// ```
+#[must_use]
 pub fn renju_feed_take(
     game: u32,
     held: &mut [u8],
@@ -843,6 +968,7 @@ pub fn renju_feed_take(
     code: u8,
 ) -> u32 {
     let (pointer, length) = (held.as_mut_ptr(), held.len());
+    // SAFETY: each pointer has its own slice's length, and what is written is lent as `&mut`.
     unsafe { ffi::renju_feed_take(game, pointer, length, count, of_game, number, code) }
 }
 
@@ -856,7 +982,9 @@ pub fn renju_feed_take(
 /// assert_eq!(renju_feed_missing(&[112, 96], &[112]), 1);
 /// assert_eq!(renju_feed_missing(&[112, 96], &[113]), 19 << 16);
 /// ```
+#[must_use]
 pub fn renju_feed_missing(first: &[u8], second: &[u8]) -> u32 {
+    // SAFETY: each pointer has its own slice's length, and no byte is written.
     unsafe { ffi::renju_feed_missing(first.as_ptr(), first.len(), second.as_ptr(), second.len()) }
 }
 
@@ -870,7 +998,9 @@ pub fn renju_feed_missing(first: &[u8], second: &[u8]) -> u32 {
 /// assert_eq!(&out[..20], b"(;GM[4]SZ[15];B[hh])");
 /// assert_eq!(renju_to_sgf(&[225], &mut out), 8 << 16);
 /// ```
+#[must_use]
 pub fn renju_to_sgf(moves: &[u8], out: &mut [u8]) -> u32 {
+    // SAFETY: each pointer has its own slice's length, and what is written is lent as `&mut`.
     unsafe { ffi::renju_to_sgf(moves.as_ptr(), moves.len(), out.as_mut_ptr(), out.len()) }
 }
 
@@ -884,7 +1014,9 @@ pub fn renju_to_sgf(moves: &[u8], out: &mut [u8]) -> u32 {
 /// assert_eq!(out[..2], [112, 128]);
 /// assert_eq!(renju_from_sgf(b"(;GM[4]SZ[19])", &mut out), 20 << 16);
 /// ```
+#[must_use]
 pub fn renju_from_sgf(text: &[u8], out: &mut [u8]) -> u32 {
+    // SAFETY: each pointer has its own slice's length, and what is written is lent as `&mut`.
     unsafe { ffi::renju_from_sgf(text.as_ptr(), text.len(), out.as_mut_ptr(), out.len()) }
 }
 
@@ -901,7 +1033,9 @@ pub fn renju_from_sgf(text: &[u8], out: &mut [u8]) -> u32 {
 /// assert_eq!(out[..7], *b"H8\n2 1\n");
 /// assert_eq!(renju_mend(b"\x80", &mut out), 2 << 16);
 /// ```
+#[must_use]
 pub fn renju_mend(text: &[u8], out: &mut [u8]) -> u32 {
+    // SAFETY: each pointer has its own slice's length, and what is written is lent as `&mut`.
     unsafe { ffi::renju_mend(text.as_ptr(), text.len(), out.as_mut_ptr(), out.len()) }
 }
 
@@ -917,7 +1051,9 @@ pub fn renju_mend(text: &[u8], out: &mut [u8]) -> u32 {
 /// assert_eq!(renju_win_check(&cells, 2, &[112]), 0);
 /// assert_eq!(renju_win_check(&cells, 3, &[225]), 8 << 16);
 /// ```
+#[must_use]
 pub fn renju_win_check(cells: &[u8], colour: u8, line: &[u8]) -> u32 {
+    // SAFETY: each pointer has its own slice's length, and no byte is written.
     unsafe {
         ffi::renju_win_check(
             cells.as_ptr(),
@@ -942,7 +1078,9 @@ pub fn renju_win_check(cells: &[u8], colour: u8, line: &[u8]) -> u32 {
 /// assert_eq!(renju_win_plan(&cells, 1, 6, &mut out), 0);
 /// assert_eq!(renju_win_plan(&cells, 2, 7, &mut out), 21 << 16);
 /// ```
+#[must_use]
 pub fn renju_win_plan(cells: &[u8], colour: u8, limit: u8, out: &mut [u8]) -> u32 {
+    // SAFETY: each pointer has its own slice's length, and what is written is lent as `&mut`.
     unsafe {
         ffi::renju_win_plan(
             cells.as_ptr(),

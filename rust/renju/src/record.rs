@@ -27,7 +27,7 @@ use crate::{List, MOVES, Moves, RECORD, Refusal, View};
 /// assert_eq!(report.to_string(), "no fault, nobody has won");
 /// # Ok::<(), Refusal>(())
 /// ```
-#[derive(Clone, Copy, Debug, PartialEq, Eq, Hash)]
+#[derive(Clone, Copy, Debug, PartialEq, Eq, PartialOrd, Ord, Hash)]
 pub struct Record {
     view: View,
     game: Moves,
@@ -58,6 +58,7 @@ impl Record {
     /// assert_eq!(record.to_codes()?[..], [112]);
     /// # Ok::<(), renju::Refusal>(())
     /// ```
+    #[must_use]
     pub const fn new(view: View, game: Moves) -> Self {
         Self { view, game }
     }
@@ -71,6 +72,7 @@ impl Record {
     /// assert_eq!(record.view(), View::HalfTurn);
     /// # Ok::<(), renju::Refusal>(())
     /// ```
+    #[must_use]
     pub const fn view(&self) -> View {
         self.view
     }
@@ -84,6 +86,7 @@ impl Record {
     /// assert!(record.moves().points().eq(["H8".parse()?, "I9".parse()?]));
     /// # Ok::<(), renju::Refusal>(())
     /// ```
+    #[must_use]
     pub const fn moves(&self) -> &Moves {
         &self.game
     }
@@ -97,6 +100,7 @@ impl Record {
     /// assert_eq!(record.to_bytes()[..], [1, 0, 1, 0, 2, 0, 1, 112]);
     /// # Ok::<(), renju::Refusal>(())
     /// ```
+    #[must_use]
     pub fn to_bytes(&self) -> RecordBytes {
         let (codes, view) = (self.game.as_codes(), self.view.number());
         let mut bytes = [0; RECORD];
@@ -105,8 +109,11 @@ impl Record {
         RecordBytes::gather(0, length, bytes.into_iter())
     }
 
-    /// The game in the old form, a point's code for each move; refusal 16 in
-    /// another view than 0, which the old form cannot say.
+    /// The game in the old form, a point's code for each move.
+    ///
+    /// # Errors
+    ///
+    /// Refusal 16 in another view than 0, which the old form cannot say.
     ///
     /// ```
     /// use renju::{Moves, Record, Refusal, View};
@@ -140,8 +147,7 @@ impl TryFrom<&[u8]> for Record {
     // that its view and moves are written as is proved (`read-written` in `crates/stored`). So the
     // moves are what stands behind its front, in any view.
     fn try_from(bytes: &[u8]) -> Result<Self, Refusal> {
-        // A view is 0 to 7, so the low byte has it whole.
-        let view = View::from_number(answer(renju_tagged_view(bytes))? as u8)?;
+        let view = View::given(answer(renju_tagged_view(bytes))?);
         let game = Moves::from_codes(bytes.get(FRONT..).unwrap_or_default())?;
         Ok(Self { view, game })
     }

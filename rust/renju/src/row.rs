@@ -47,6 +47,7 @@ impl Row {
     /// assert_eq!(cells.rows(Colour::Black, Kind::Four)[0].key(), 15 + 7);
     /// # Ok::<(), renju::Refusal>(())
     /// ```
+    #[must_use]
     pub const fn key(self) -> u8 {
         self.key
     }
@@ -60,6 +61,7 @@ impl Row {
     /// assert_eq!(cells.rows(Colour::Black, Kind::Four)[0].start(), 3);
     /// # Ok::<(), renju::Refusal>(())
     /// ```
+    #[must_use]
     pub const fn start(self) -> u8 {
         self.start
     }
@@ -72,6 +74,7 @@ impl Row {
     /// assert_eq!(cells.rows(Colour::Black, Kind::Four)[0].stones_mask(), 0b11110);
     /// # Ok::<(), renju::Refusal>(())
     /// ```
+    #[must_use]
     pub const fn stones_mask(self) -> u8 {
         self.stones
     }
@@ -84,6 +87,7 @@ impl Row {
     /// assert_eq!(cells.rows(Colour::Black, Kind::Four)[0].eyes_mask(), 0b00001);
     /// # Ok::<(), renju::Refusal>(())
     /// ```
+    #[must_use]
     pub const fn eyes_mask(self) -> u8 {
         self.eyes
     }
@@ -124,6 +128,7 @@ impl Row {
     /// assert_eq!(row.to_bytes(), [22, 3, 0b11110, 0b00001]);
     /// # Ok::<(), renju::Refusal>(())
     /// ```
+    #[must_use]
     pub const fn to_bytes(self) -> [u8; 4] {
         [self.key, self.start, self.stones, self.eyes]
     }
@@ -161,4 +166,34 @@ fn point_at(key: u8, cell: u8) -> Option<Point> {
         _ => return None,
     };
     Point::new(x, y).ok()
+}
+
+#[cfg(test)]
+mod tests {
+    use super::point_at;
+    use crate::Point;
+
+    /// Each line has its own points and no other; each point is on four lines.
+    #[test]
+    fn cells_of_lines() {
+        let mut met = [0; 225];
+        for key in 0..=u8::MAX {
+            for point in (0..=u8::MAX).filter_map(|cell| point_at(key, cell)) {
+                met[usize::from(point.code())] += 1;
+            }
+        }
+        // A diagonal of under five cells is no line.
+        for (point, times) in Point::all().zip(met) {
+            let (x, y) = (i32::from(point.x()), i32::from(point.y()));
+            let lines = 2 + i32::from((x - y).abs() <= 10) + i32::from((x + y - 14).abs() <= 10);
+            assert_eq!(times, lines, "{point}");
+        }
+    }
+
+    #[test]
+    fn no_point_off_a_line() {
+        for (key, cell) in [(0, 15), (29, 15), (72, 0), (255, 0), (40, 15), (61, 15)] {
+            assert_eq!(point_at(key, cell), None, "{key} {cell}");
+        }
+    }
 }

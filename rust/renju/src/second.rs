@@ -38,6 +38,7 @@ use crate::{Cells, Colour, Crosses, Kind, Point, Points, Refusal, Rows, RowsOn, 
 /// assert_eq!(keys, [7, 7, 7, 22, 22, 22]);
 /// # Ok::<(), renju::Refusal>(())
 /// ```
+#[must_use]
 pub fn rows(cells: &Cells, colour: Colour, kind: Kind) -> Rows {
     SECOND.rows(cells, colour, kind)
 }
@@ -52,6 +53,7 @@ pub fn rows(cells: &Cells, colour: Colour, kind: Kind) -> Rows {
 /// assert_eq!(swords.len(), 4);
 /// # Ok::<(), renju::Refusal>(())
 /// ```
+#[must_use]
 pub fn rows_on(cells: &Cells, point: Point, colour: Colour, kind: Kind) -> RowsOn {
     SECOND.rows_on(cells, point, colour, kind)
 }
@@ -67,12 +69,16 @@ pub fn rows_on(cells: &Cells, point: Point, colour: Colour, kind: Kind) -> RowsO
 /// assert_eq!(eyes.as_slice(), ["D8".parse()?, "I8".parse()?]);
 /// # Ok::<(), renju::Refusal>(())
 /// ```
+#[must_use]
 pub fn four_eyes_on(cells: &Cells, point: Point, colour: Colour) -> Points {
     SECOND.four_eyes_on(cells, point, colour)
 }
 
-/// The plain verdict, with refusal 11 at an occupied point: as
-/// [`Cells::plain_verdict`].
+/// The plain verdict: as [`Cells::plain_verdict`].
+///
+/// # Errors
+///
+/// Refusal 11 at an occupied point.
 ///
 /// ```
 /// use renju::{Cells, Refusal, Verdict, second};
@@ -96,6 +102,7 @@ pub fn plain_verdict(cells: &Cells, point: Point) -> Result<Verdict, Refusal> {
 /// assert_eq!(second::verdict(&cells, "H8".parse()?), Verdict::None);
 /// # Ok::<(), renju::Refusal>(())
 /// ```
+#[must_use]
 pub fn verdict(cells: &Cells, point: Point) -> Verdict {
     SECOND.verdict(cells, point)
 }
@@ -112,6 +119,7 @@ pub fn verdict(cells: &Cells, point: Point) -> Verdict {
 /// assert_eq!(crosses[0].to_string(), "H8 DoubleThree");
 /// # Ok::<(), renju::Refusal>(())
 /// ```
+#[must_use]
 pub fn forbidden_points(cells: &Cells) -> Crosses {
     SECOND.forbidden_points(cells)
 }

@@ -7,6 +7,7 @@
 //! with its brackets such as `[hh]`. Everything else is refused 20: other properties, another order,
 //! variations, several games. The referee is not asked: a text may repeat a point.
 
+use crate::list::front;
 use crate::raw::{renju_from_sgf, renju_to_sgf};
 use crate::refusal::{answer, given};
 use crate::{List, MOVES, Moves, Refusal, SGF};
@@ -31,6 +32,7 @@ pub type Text = List<u8, SGF>;
 /// assert_eq!(&text[..], b"(;GM[4]SZ[15];B[hh];W[ig])");
 /// # Ok::<(), renju::Refusal>(())
 /// ```
+#[must_use]
 pub fn write(game: &Moves) -> Text {
     let mut bytes = [0; SGF];
     // At most 225 moves, each a point, and room for all: never refused.
@@ -38,7 +40,12 @@ pub fn write(game: &Moves) -> Text {
     Text::gather(0, length, bytes.into_iter())
 }
 
-/// The game that an SGF text says. Refusals 1, 2, 20, 14.
+/// The game that an SGF text says.
+///
+/// # Errors
+///
+/// Refusals 1 and 2 are for bytes that can be no text, 20 for a text outside the subset, 14 for more
+/// than 225 moves.
 ///
 /// ```
 /// use renju::{Refusal, sgf};
@@ -52,5 +59,5 @@ pub fn write(game: &Moves) -> Text {
 pub fn read(text: &[u8]) -> Result<Moves, Refusal> {
     let mut codes = [0; MOVES];
     let count = answer(renju_from_sgf(text, &mut codes))?;
-    Moves::from_codes(codes.get(..count.into()).unwrap_or_default())
+    Moves::from_codes(front(&codes, count))
 }

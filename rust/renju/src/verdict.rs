@@ -1,7 +1,8 @@
 //! What the referee says of a point, and a point that is forbidden.
 
-use crate::Point;
-use std::fmt;
+use crate::named::{numbered_and_named, pad};
+use crate::{Point, Refusal};
+use core::fmt;
 
 /// What the referee says of a black stone at a point.
 ///
@@ -52,25 +53,48 @@ impl Verdict {
     /// ```
     /// assert_eq!(renju::Verdict::Overline.number(), 3);
     /// ```
+    #[must_use]
     pub const fn number(self) -> u8 {
         self as u8
     }
 
-    /// The verdict of a number, if there is one.
+    /// The verdict of a number.
+    ///
+    /// # Errors
+    ///
+    /// Refusal 12 for one over 3.
+    ///
+    /// ```
+    /// use renju::{Refusal, Verdict};
+    ///
+    /// assert_eq!(Verdict::from_number(2), Ok(Verdict::DoubleFour));
+    /// assert_eq!(Verdict::from_number(4), Err(Refusal::Number));
+    /// ```
+    pub const fn from_number(number: u8) -> Result<Self, Refusal> {
+        Ok(match number {
+            0 => Self::None,
+            1 => Self::DoubleThree,
+            2 => Self::DoubleFour,
+            3 => Self::Overline,
+            _ => return Err(Refusal::Number),
+        })
+    }
+
+    /// Its name, as it stands here.
     ///
     /// ```
     /// use renju::Verdict;
     ///
-    /// assert_eq!(Verdict::from_number(2), Some(Verdict::DoubleFour));
-    /// assert_eq!(Verdict::from_number(4), None);
+    /// assert_eq!(Verdict::DoubleFour.name(), "DoubleFour");
+    /// assert_eq!("overline".parse(), Ok(Verdict::Overline));
     /// ```
-    pub const fn from_number(number: u8) -> Option<Self> {
-        match number {
-            0 => Some(Self::None),
-            1 => Some(Self::DoubleThree),
-            2 => Some(Self::DoubleFour),
-            3 => Some(Self::Overline),
-            _ => None,
+    #[must_use]
+    pub const fn name(self) -> &'static str {
+        match self {
+            Self::None => "None",
+            Self::DoubleThree => "DoubleThree",
+            Self::DoubleFour => "DoubleFour",
+            Self::Overline => "Overline",
         }
     }
 
@@ -82,26 +106,20 @@ impl Verdict {
     /// assert!(Verdict::Overline.is_forbidden());
     /// assert!(!Verdict::None.is_forbidden());
     /// ```
+    #[must_use]
     pub const fn is_forbidden(self) -> bool {
         !matches!(self, Self::None)
     }
 
     /// The verdict of a number that the archive gave: 0 to 3, by contract.
     pub(crate) fn given(number: u8) -> Self {
-        Self::from_number(number).unwrap_or(Self::None)
+        let verdict = Self::from_number(number);
+        debug_assert!(verdict.is_ok(), "the archive gave verdict {number}");
+        verdict.unwrap_or(Self::None)
     }
 }
 
-impl fmt::Display for Verdict {
-    fn fmt(&self, f: &mut fmt::Formatter<'_>) -> fmt::Result {
-        f.pad(match self {
-            Self::None => "None",
-            Self::DoubleThree => "DoubleThree",
-            Self::DoubleFour => "DoubleFour",
-            Self::Overline => "Overline",
-        })
-    }
-}
+numbered_and_named!(Verdict);
 
 /// A point that is forbidden to Black, with the kind: a cross on the table.
 ///
@@ -121,8 +139,27 @@ pub struct Cross {
     pub verdict: Verdict,
 }
 
+/// `H8 DoubleThree`.
 impl fmt::Display for Cross {
     fn fmt(&self, f: &mut fmt::Formatter<'_>) -> fmt::Result {
-        write!(f, "{} {}", self.point, self.verdict)
+        pad(f, format_args!("{} {}", self.point, self.verdict))
+    }
+}
+
+#[cfg(test)]
+mod tests {
+    use super::Verdict;
+
+    #[test]
+    fn given_by_number() {
+        for (verdict, number) in Verdict::ALL.into_iter().zip(0..) {
+            assert_eq!(Verdict::given(number), verdict);
+        }
+    }
+
+    #[test]
+    #[cfg_attr(debug_assertions, should_panic = "the archive gave verdict 4")]
+    fn no_other_is_given() {
+        assert_eq!(Verdict::given(4), Verdict::None);
     }
 }

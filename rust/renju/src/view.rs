@@ -1,6 +1,7 @@
 //! The eight views of the board, and one after another.
 
 use crate::Refusal;
+use crate::named::numbered_and_named;
 use crate::raw::{renju_view_back, renju_view_then};
 use crate::refusal::given;
 
@@ -69,11 +70,16 @@ impl View {
     /// ```
     /// assert_eq!(renju::View::HalfTurn.number(), 2);
     /// ```
+    #[must_use]
     pub const fn number(self) -> u8 {
         self as u8
     }
 
-    /// The view of a number; refusal 12 for one over 7.
+    /// The view of a number.
+    ///
+    /// # Errors
+    ///
+    /// Refusal 12 for one over 7.
     ///
     /// ```
     /// use renju::{Refusal, View};
@@ -95,8 +101,31 @@ impl View {
         })
     }
 
+    /// Its name, as it stands here.
+    ///
+    /// ```
+    /// use renju::View;
+    ///
+    /// assert_eq!(View::QuarterLeft.name(), "QuarterLeft");
+    /// assert_eq!("HalfTurn".parse(), Ok(View::HalfTurn));
+    /// ```
+    #[must_use]
+    pub const fn name(self) -> &'static str {
+        match self {
+            Self::Same => "Same",
+            Self::QuarterRight => "QuarterRight",
+            Self::HalfTurn => "HalfTurn",
+            Self::QuarterLeft => "QuarterLeft",
+            Self::LeftRight => "LeftRight",
+            Self::TopBottom => "TopBottom",
+            Self::Ascending => "Ascending",
+            Self::Descending => "Descending",
+        }
+    }
+
     /// The view of a number that the archive gave: 0 to 7, by contract.
-    fn given(number: u16) -> Self {
+    pub(crate) fn given(number: u16) -> Self {
+        debug_assert!(number < 8, "the archive gave view {number}");
         Self::ALL[usize::from(number & 7)]
     }
 
@@ -113,6 +142,7 @@ impl View {
     /// assert_eq!(h9.turned(mirror).turned(turn), h9.turned(mirror.then(turn)));
     /// # Ok::<(), renju::Refusal>(())
     /// ```
+    #[must_use]
     pub fn then(self, next: Self) -> Self {
         Self::given(given(renju_view_then(self.number(), next.number())))
     }
@@ -129,7 +159,28 @@ impl View {
     /// assert_eq!(view.then(view.back()), View::Same);
     /// # Ok::<(), renju::Refusal>(())
     /// ```
+    #[must_use]
     pub fn back(self) -> Self {
         Self::given(given(renju_view_back(self.number())))
+    }
+}
+
+numbered_and_named!(View);
+
+#[cfg(test)]
+mod tests {
+    use super::View;
+
+    #[test]
+    fn given_by_number() {
+        for (view, number) in View::ALL.into_iter().zip(0..) {
+            assert_eq!(View::given(number), view);
+        }
+    }
+
+    #[test]
+    #[cfg_attr(debug_assertions, should_panic = "the archive gave view 13")]
+    fn no_other_is_given() {
+        assert_eq!(View::given(13), View::TopBottom);
     }
 }

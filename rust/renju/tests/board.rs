@@ -64,8 +64,34 @@ fn odd_points() {
     }
     assert_eq!("é8".parse::<Point>(), Err(Refusal::TextByte));
     let long = |bytes| format!("{:bytes$}", "H8").parse::<Point>();
-    assert_eq!(long(2047), Ok(point("H8")));
-    assert_eq!(long(2048), Err(Refusal::TextLength));
+    assert_eq!(long(4096), Ok(point("H8")));
+    assert_eq!(long(4097), Err(Refusal::TextLength));
+}
+
+/// A point alone is read as a board's text reads a lone one, for all texts of up to five bytes from a
+/// small set; a comma and a slash part a board's text, and are bytes like any other in a point's.
+#[test]
+fn points_as_in_boards() {
+    const BYTES: [u8; 11] = *b" \nhP0159,/+";
+    let mut texts = vec![Vec::new()];
+    let mut met = 0;
+    for _ in 0..5 {
+        let longer = texts
+            .iter()
+            .flat_map(|text: &Vec<u8>| BYTES.map(|byte| [&text[..], &[byte]].concat()));
+        texts = longer.collect();
+        for text in &texts {
+            let plain = text.iter().map(|byte| match byte {
+                b',' | b'/' => b'.',
+                other => *other,
+            });
+            let board = Cells::read(&plain.collect::<Vec<_>>());
+            let alone = board.map(|cells| cells.stones(Colour::Black)[0]);
+            assert_eq!(Point::read(text), alone, "{text:?}");
+            met += usize::from(alone.is_ok());
+        }
+    }
+    assert!(met > 100, "{met}");
 }
 
 #[test]
@@ -325,4 +351,23 @@ fn views_that_are_none() {
         assert_eq!(renju_view_then(number, number), 12 << 16);
         assert_eq!(renju_view_back(number), 12 << 16);
     }
+}
+
+/// The least of the eight by the bytes, and the first view that gives it; the same from every view.
+#[test]
+fn canonical_boards() {
+    let symmetric = ["H8", "H8,A1/O15", "A1,O15/A15,O1", "H7,H9/G8,I8"];
+    let symmetric = symmetric.map(|text| text.parse::<Cells>().expect("a board"));
+    let mut views = [0; 8];
+    for cells in boards(200, 5).into_iter().chain(symmetric) {
+        let turned = View::ALL.map(|view| (*cells.turned(view).as_bytes(), view));
+        let (bytes, first) = turned.into_iter().min().expect("eight");
+        let (least, view) = cells.canonical();
+        assert_eq!((least.as_bytes(), view), (&bytes, first));
+        for each in View::ALL {
+            assert_eq!(cells.turned(each).canonical().0, least);
+        }
+        views[usize::from(view.number())] += 1;
+    }
+    assert!(views.iter().all(|&times| times > 0), "{views:?}");
 }

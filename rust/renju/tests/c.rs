@@ -1,6 +1,7 @@
 //! The header, by a C compiler: a program that calls every function, linked with the same archive,
 //! and the examples of this README and of the root's.
 
+use renju::Refusal;
 use std::fs;
 use std::path::{Path, PathBuf};
 use std::process::{Command, Output};
@@ -50,16 +51,77 @@ fn every_function_from_c() {
     assert_eq!(run(&program), text("tests/c/calls.txt"));
 }
 
-/// Only where there is a C++ compiler: the crate needs none.
+/// Whether a tool can be run that the crate itself does not need; says so where it can't.
+fn has(tool: &str) -> bool {
+    let there = Command::new(tool).arg("--version").output().is_ok();
+    if !there {
+        println!("not run: no {tool}");
+    }
+    there
+}
+
 #[test]
 fn every_function_from_cpp() {
-    if Command::new("c++").arg("--version").output().is_err() {
-        println!("not run: no c++");
+    if has("c++") {
+        let source = package().join("tests/c/calls.c");
+        let program = compile("c++", ["-std=c++11", "c++"], &source, "calls_cpp");
+        assert_eq!(run(&program), text("tests/c/calls.txt"));
+    }
+}
+
+/// NULL with length 0 is an empty slice.
+#[test]
+fn no_slice_from_c() {
+    let source = package().join("tests/c/empty.c");
+    let program = compile("cc", ["-std=c99", "c"], &source, "empty");
+    assert_eq!(run(&program), text("tests/c/empty.txt"));
+}
+
+/// The words of each refusal are those of the crate, and the versions are its own.
+#[test]
+fn refusals_and_versions_in_words() {
+    let (version, interface) = (env!("CARGO_PKG_VERSION"), renju::raw::INTERFACE);
+    let mut lines = vec![version.to_owned(), version.to_owned()];
+    lines.push(format!("{interface} {interface}"));
+    lines.push("not refused".to_owned());
+    let last = Refusal::ALL.len() as u16 + 1;
+    let refusals = (1..=last).filter_map(Refusal::from_number);
+    lines.extend(refusals.map(|refusal| refusal.meaning().to_owned()));
+    let source = package().join("tests/c/texts.c");
+    let program = compile("cc", ["-std=c99", "c"], &source, "texts");
+    assert_eq!(run(&program).lines().collect::<Vec<_>>(), lines);
+}
+
+/// The example, compiled by what pkg-config says of a prefix that `install` has filled.
+#[test]
+fn example_by_pkg_config() {
+    if !has("pkg-config") {
         return;
     }
-    let source = package().join("tests/c/calls.c");
-    let program = compile("c++", ["-std=c++11", "c++"], &source, "calls_cpp");
-    assert_eq!(run(&program), text("tests/c/calls.txt"));
+    let room = Path::new(env!("CARGO_TARGET_TMPDIR")).join("prefix");
+    let installed = Command::new(package().join("install"))
+        .env("RENJU_ARCHIVE", env!("RENJU_ARCHIVE_FILE"))
+        .arg(&room)
+        .output()
+        .expect("install runs");
+    assert!(installed.status.success(), "{}", said(&installed));
+    let readme = text("README.md");
+    fs::write(room.join("crosses.c"), fenced(&readme, "c")).expect("the source is written");
+    let line = "cc -std=c99 crosses.c $(pkg-config --cflags --libs renju) -o crosses";
+    let compiled = Command::new("sh")
+        .args(["-ec", line])
+        .env("PKG_CONFIG_PATH", room.join("lib/pkgconfig"))
+        .current_dir(&room)
+        .output()
+        .expect("sh runs");
+    assert!(compiled.status.success(), "{}", said(&compiled));
+    assert_eq!(run(&room.join("crosses")), fenced(&readme, "text"));
+    let version = Command::new("pkg-config")
+        .args(["--modversion", "renju"])
+        .env("PKG_CONFIG_PATH", room.join("lib/pkgconfig"))
+        .output()
+        .expect("pkg-config runs");
+    assert_eq!(said(&version).trim(), env!("CARGO_PKG_VERSION"));
 }
 
 /// The part of the README between the first fence of a language and the next.

@@ -1,8 +1,8 @@
-//! The same functions in the C header, raw.rs and the archive's source; the same numbers in C and
-//! Rust.
+//! The same functions in the C header, raw.rs and the archive's source; the same numbers and versions
+//! in C and Rust.
 
 use renju::{CELLS, Colour, DIAGRAM, Kind, MENDED, MOVES, PRETTY, RECORD, REPORT, ROWS, ROWS_ON};
-use renju::{LINE, SGF, STONES_TEXT};
+use renju::{LINE, SGF, STONES_TEXT, raw};
 use renju::{Reason, Refusal, TEXT, Verdict, View};
 use std::collections::BTreeMap;
 use std::fs;
@@ -10,6 +10,8 @@ use std::path::Path;
 
 const HEADER: &str = include_str!("../include/renju.h");
 const RAW: &str = include_str!("../src/raw.rs");
+const BUILD: &str = include_str!("../build.rs");
+const PKG_CONFIG: &str = include_str!("../renju.pc");
 
 /// The text with its C comments taken out.
 fn uncommented(text: &str) -> String {
@@ -38,7 +40,10 @@ fn header_prototypes() -> Vec<String> {
 
 /// The code without the lines that are comments, single-spaced.
 fn code_of(text: &str) -> String {
-    let is_code = |line: &&str| !line.trim_start().starts_with("//");
+    let is_code = |line: &&str| {
+        let line = line.trim_start();
+        !line.starts_with("//") && line != "#[must_use]"
+    };
     let code: Vec<&str> = text.lines().filter(is_code).collect();
     single_spaced(&code.join(" "))
 }
@@ -103,7 +108,10 @@ fn in_c(declaration: &str, lowered: fn(&str) -> Vec<String>) -> String {
         .flat_map(lowered)
         .map(|parameter| parameter_in_c(&parameter))
         .collect();
-    format!("uint32_t {name}({})", parameters.join(", "))
+    match parameters.is_empty() {
+        true => format!("uint32_t {name}(void)"),
+        false => format!("uint32_t {name}({})", parameters.join(", ")),
+    }
 }
 
 fn parameter_in_c(parameter: &str) -> String {
@@ -124,7 +132,7 @@ fn parameter_in_c(parameter: &str) -> String {
 #[test]
 fn same_functions() {
     let header = header_prototypes();
-    assert_eq!(header.len(), 42);
+    assert_eq!(header.len(), 45);
     assert_eq!(header, raw_prototypes());
     assert_eq!(header, source_prototypes());
 }
@@ -140,12 +148,68 @@ fn every_function_is_called_from_c() {
     }
 }
 
+/// .. and by the one that hands NULL over, in the place of each of its slices.
+#[test]
+fn every_slice_is_empty_once_from_c() {
+    let calls = include_str!("c/empty.c");
+    for prototype in header_prototypes() {
+        let name = prototype.trim_start_matches("uint32_t ");
+        let (name, parameters) = name.split_once('(').expect("parameters");
+        let slices = parameters.matches('*').count();
+        let call = format!("{name}(");
+        let lines = calls.lines().filter(|line| line.contains(&call));
+        let nulls: usize = lines.map(|line| line.matches("NULL, 0").count()).sum();
+        assert!(nulls >= slices, "{name}: {nulls} of {slices}");
+    }
+}
+
+/// Each function has a comment of its own before it, which says what it refuses.
+#[test]
+fn every_function_has_its_comment() {
+    let starts = HEADER
+        .match_indices("\nuint32_t renju_")
+        .map(|(at, _)| at + 1);
+    for start in starts {
+        let name = HEADER[start..].split_once('(').expect("a function").0;
+        let before = HEADER[..start].trim_end();
+        assert!(before.ends_with("*/"), "{name}");
+        let comment = &before[before.rfind("/*").expect("a comment")..];
+        assert!(!comment.starts_with("/*\n"), "{name}: that of a group");
+        let refuses = ["Refusals ", "Refusal ", "Never refused"];
+        let said = single_spaced(&comment.replace("\n * ", " "));
+        assert!(refuses.iter().any(|word| said.contains(word)), "{name}");
+    }
+}
+
+/// What the header defines as text.
+fn header_text(name: &str) -> &'static str {
+    let found = HEADER.split_once(&format!("#define {name} \""));
+    let text = found.unwrap_or_else(|| panic!("{name}")).1;
+    text.split_once('"').expect("its end").0
+}
+
+/// The crate, the header and pkg-config name one version; the crate, the header, `build.rs`, a symbol
+/// and the archive one interface.
+#[test]
+fn same_versions() {
+    assert_eq!(header_text("RENJU_VERSION"), env!("CARGO_PKG_VERSION"));
+    let version = format!("\nVersion: {}\n", env!("CARGO_PKG_VERSION"));
+    assert!(PKG_CONFIG.contains(&version), "{PKG_CONFIG}");
+    assert_eq!(raw::renju_interface_2(), raw::INTERFACE);
+    let interface = raw::INTERFACE;
+    let symbol = format!("uint32_t renju_interface_{interface}(void)");
+    assert!(header_prototypes().contains(&symbol), "{symbol}");
+    let said = format!("\nconst INTERFACE: &str = \"renju_interface_{interface}\";\n");
+    assert!(BUILD.contains(&said), "{said}");
+}
+
 /// The header's numbers by name: `#define NAME n` and `NAME = n`.
 fn header_numbers() -> BTreeMap<String, usize> {
     let code = uncommented(HEADER);
     let defined = code.lines().filter_map(|line| {
         let (name, number) = line.strip_prefix("#define ")?.split_once(' ')?;
-        Some((name, number.trim()))
+        // Not a text.
+        (!number.starts_with('"')).then_some((name, number.trim()))
     });
     let numbered = code
         .split([',', '{', '}'])
@@ -156,6 +220,16 @@ fn header_numbers() -> BTreeMap<String, usize> {
         .filter(|(name, _)| name.starts_with("RENJU_"))
         .map(|(name, number)| (name.to_owned(), number.parse().expect("a number")))
         .collect()
+}
+
+/// A part of the package's version.
+fn version(part: usize) -> usize {
+    let mut parts = env!("CARGO_PKG_VERSION").split('.');
+    parts
+        .nth(part)
+        .expect("three parts")
+        .parse()
+        .expect("a number")
 }
 
 /// `DoubleThree` as the header has it: `RENJU_DOUBLE_THREE`.
@@ -170,42 +244,54 @@ fn name_in_c(name: impl std::fmt::Debug) -> String {
     result
 }
 
+/// Sizes, which are called `.._BYTES` so that none looks like a refusal.
+fn sizes() -> Vec<(String, usize)> {
+    let sizes = [
+        ("TEXT", TEXT),
+        ("CELLS", CELLS),
+        ("POINTS", CELLS),
+        ("DIAGRAM", DIAGRAM),
+        ("PRETTY", PRETTY),
+        ("STONES_TEXT", STONES_TEXT),
+        ("CROSS", 2),
+        ("CROSSES", 2 * CELLS),
+        ("ROW", 4),
+        ("ROWS", 4 * ROWS),
+        ("ROWS_ON", 4 * ROWS_ON),
+        ("MOVES", MOVES),
+        ("REPORT", REPORT),
+        ("RECORD", RECORD),
+        ("LINE", LINE),
+        ("SGF", SGF),
+        ("MENDED", MENDED),
+    ];
+    let named = |(name, size)| (format!("RENJU_{name}_BYTES"), size);
+    sizes.into_iter().map(named).collect()
+}
+
 #[test]
 fn same_numbers() {
     let mut ours = BTreeMap::from(
         [
             ("RENJU_EMPTY", 0),
-            ("RENJU_TEXT", TEXT),
-            ("RENJU_CELLS", CELLS),
-            ("RENJU_DIAGRAM", DIAGRAM),
-            ("RENJU_PRETTY", PRETTY),
-            ("RENJU_STONES_TEXT", STONES_TEXT),
-            ("RENJU_CROSS", 2),
-            ("RENJU_CROSSES", CELLS),
-            ("RENJU_ROW", 4),
-            ("RENJU_ROWS", ROWS),
-            ("RENJU_ROWS_ON", ROWS_ON),
-            ("RENJU_MOVES", MOVES),
-            ("RENJU_REPORT", REPORT),
             ("RENJU_REASON_NONE", 0),
-            ("RENJU_RECORD", RECORD),
-            ("RENJU_LINE", LINE),
-            ("RENJU_SGF", SGF),
-            ("RENJU_MENDED", MENDED),
+            ("RENJU_VERSION_MAJOR", version(0)),
+            ("RENJU_VERSION_MINOR", version(1)),
+            ("RENJU_VERSION_PATCH", version(2)),
+            ("RENJU_INTERFACE", raw::INTERFACE as usize),
         ]
         .map(|(name, number)| (name.to_owned(), number)),
     );
-    let refusals = Refusal::ALL.map(|of| (name_in_c(of), of.number()));
-    let colours = Colour::ALL.map(|of| (name_in_c(of), of.number()));
-    let kinds = Kind::ALL.map(|of| (name_in_c(of), of.number()));
-    let views = View::ALL.map(|of| (name_in_c(of), of.number()));
-    let verdicts = Verdict::ALL.map(|of| (name_in_c(of), of.number()));
-    // Apart from the refusal of the same name.
-    let reason_in_c = |of| name_in_c(of).replacen("RENJU", "RENJU_REASON", 1);
-    let reasons = Reason::ALL.map(|of| (reason_in_c(of), of.number()));
+    let apart = |group, of: &dyn std::fmt::Debug| name_in_c(of).replacen("RENJU", group, 1);
+    let refusals = Refusal::ALL.map(|of| (apart("RENJU_REFUSED", &of), of.number().into()));
+    let colours = Colour::ALL.map(|of| (name_in_c(of), of.number().into()));
+    let kinds = Kind::ALL.map(|of| (name_in_c(of), of.number().into()));
+    let views = View::ALL.map(|of| (name_in_c(of), of.number().into()));
+    let verdicts = Verdict::ALL.map(|of| (name_in_c(of), of.number().into()));
+    let reasons = Reason::ALL.map(|of| (apart("RENJU_REASON", &of), of.number().into()));
     let groups = [&refusals[..], &colours, &kinds, &views, &verdicts, &reasons];
-    for (name, number) in groups.concat() {
-        let before = ours.insert(name.clone(), usize::from(number));
+    for (name, number) in groups.concat().into_iter().chain(sizes()) {
+        let before = ours.insert(name.clone(), number);
         assert_eq!(before, None, "{name} twice");
     }
     assert_eq!(header_numbers(), ours);

@@ -18,10 +18,12 @@ thread_local! {
 unsafe impl GlobalAlloc for Counting {
     unsafe fn alloc(&self, layout: Layout) -> *mut u8 {
         ASKED.set(ASKED.get() + 1);
+        // SAFETY: as the caller's.
         unsafe { System.alloc(layout) }
     }
 
     unsafe fn dealloc(&self, place: *mut u8, layout: Layout) {
+        // SAFETY: as the caller's.
         unsafe { System.dealloc(place, layout) }
     }
 }
@@ -77,6 +79,8 @@ fn ask_for_a_win(cells: &Cells, point: Point) {
 
 fn ask_everything(bytes: &[u8], text: &[u8], point: Point) {
     let mut cells = Cells::read(text).unwrap();
+    assert_eq!(" h08".parse(), Ok(point));
+    write!(Nowhere, "{point:>5}{:20}", cells.counts()).unwrap();
     cells.put(point, Colour::Black);
     cells.remove(point);
     assert_eq!(Ok(cells), Cells::from_bytes(bytes));
@@ -90,6 +94,7 @@ fn ask_everything(bytes: &[u8], text: &[u8], point: Point) {
     }
     black_box(cells.empty_points());
     black_box(cells.counts());
+    black_box(cells.canonical());
     black_box(cells.neighbors(point, 14, true)).unwrap();
     black_box(cells.plain_verdict(point)).unwrap();
     black_box(cells.verdict(point));

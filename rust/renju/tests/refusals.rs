@@ -16,10 +16,58 @@ fn numbers_and_meanings() {
         assert_eq!(said, format!("refused {number}: {meaning}"));
         assert!(meanings.insert(meaning), "{meaning}, twice");
     }
-    for number in (0..=0).chain(23..=u8::MAX) {
-        assert_eq!(Refusal::from_number(number), None);
-    }
+    assert_eq!(Refusal::from_number(0), None);
     assert_eq!(answer(65535), Ok(65535));
+}
+
+/// The words of each, as they are read by people.
+const MEANINGS: [&str; 22] = [
+    "the text has over 4,096 bytes",
+    "the text has a byte of 128 or more",
+    "a point's letter is not A to O, or there is a second slash",
+    "behind a point's letter there is not just a number 1 to 15 of one or two digits",
+    "wrong length: a diagram line has over 15 cells",
+    "wrong number of lines: a diagram has 15",
+    "wrong line size: a diagram line has under 15 cells",
+    "no such point: its code is over 224 or a coordinate over 14",
+    "unsound: not 225 cell bytes of 0 to 2, or a line with a stone past its end or two on a cell",
+    "no such place: the line's size is not 5 to 15, or the cell not on it",
+    "the point is occupied",
+    "no view, distance, colour, row kind, verdict or reason has this number or name",
+    "the lent output is too short",
+    "the game has more than 225 moves",
+    "the record is malformed",
+    "the record is in another view than 0",
+    "the move is of another game, or no game number is left",
+    "the move's number is not next, or there is no such move",
+    "neither list begins the other",
+    "the SGF text is outside the subset that is read",
+    "the limit of attacks is not 1 to 6",
+    "a side has no stones, which stones text can't say",
+];
+
+#[test]
+fn meanings() {
+    assert_eq!(Refusal::ALL.map(Refusal::meaning), MEANINGS);
+}
+
+/// A number without a name stays that number, and is no other refusal.
+#[test]
+fn unknown_numbers() {
+    for number in 23..=u16::MAX {
+        let refusal = Refusal::from_number(number).expect("a refusal");
+        assert_eq!(refusal.number(), number);
+        assert_eq!(u16::from(refusal), number);
+        assert_eq!(answer(u32::from(number) << 16 | 5), Err(refusal));
+        assert!(!Refusal::ALL.contains(&refusal));
+        assert!(Refusal::ALL.iter().all(|known| *known < refusal));
+    }
+    let refusal = Refusal::from_number(300).expect("a refusal");
+    assert_eq!(
+        refusal.to_string(),
+        "refused 300: a refusal that this version does not know"
+    );
+    assert!(matches!(refusal, Refusal::Unknown { number: 300, .. }));
 }
 
 #[test]
@@ -82,9 +130,9 @@ fn numbers_from_outside() {
     }
     for (verdict, number) in Verdict::ALL.into_iter().zip(0..) {
         assert_eq!(verdict.number(), number);
-        assert_eq!(Verdict::from_number(number), Some(verdict));
+        assert_eq!(Verdict::from_number(number), Ok(verdict));
     }
-    assert_eq!(Verdict::from_number(4), None);
+    assert_eq!(Verdict::from_number(4), Err(Refusal::Number));
 }
 
 #[test]
@@ -188,6 +236,8 @@ fn outputs_of_every_length() {
     room(60, 60, |out| renju_neighbors(cells, 112, 14, false, out));
     room(53, 53, |out| renju_neighbors(cells, 112, 14, true, out));
     room(225, 225, |out| renju_turn(cells, 3, out));
+    // With left and right changed over, the stones in the columns A to D come last.
+    room(4, 225, |out| renju_canonical(cells, out));
     room(3, 228, |out| renju_game(&[112, 113, 113], out));
     room(0, 228, |out| renju_game(&[], out));
     for referee in &REFEREES {
@@ -219,6 +269,8 @@ fn first_refusal_of_several() {
     refused(12, |out| renju_neighbors(&good, 224, 15, true, out));
     refused(9, |out| renju_turn(&bad, 8, out));
     refused(12, |out| renju_turn(&good, 8, out));
+    refused(9, |out| renju_canonical(&bad, out));
+    refused(9, |out| renju_canonical(&good[..224], out));
     refused(3, |out| renju_read(b"P8,H16", out));
     refused(6, |out| renju_read_diagram(b"P8,H16", out));
     let black = vec!["o.............."; 15].join("\n");

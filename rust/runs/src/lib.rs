@@ -3,7 +3,9 @@
 pub mod depth;
 pub mod differential;
 pub mod feed;
+pub mod growth;
 pub mod hints;
+pub mod load;
 pub mod mending;
 pub mod reading;
 pub mod sgf;

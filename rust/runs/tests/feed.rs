@@ -43,12 +43,12 @@ fn found(sides: &Sides) -> Vec<&'static str> {
 struct Wrong {
     client: Client,
     game: u32,
-    heard: fn(&mut Client, u32, Message) -> (u8, Answer),
+    heard: fn(&mut Client, u32, Message) -> (u16, Answer),
     told: u16,
 }
 
 impl Thin for Wrong {
-    fn take(&mut self, message: Message) -> (u8, Answer) {
+    fn take(&mut self, message: Message) -> (u16, Answer) {
         let (refused, answer) = (self.heard)(&mut self.client, self.game, message);
         let count = answer.count + self.told;
         (refused, Answer { count, ..answer })
@@ -71,7 +71,7 @@ impl Thin for Wrong {
 
 fn wrong(
     game: u32,
-    heard: fn(&mut Client, u32, Message) -> (u8, Answer),
+    heard: fn(&mut Client, u32, Message) -> (u16, Answer),
     told: u16,
 ) -> Box<dyn Thin> {
     let client = Client::new(game);
@@ -83,12 +83,12 @@ fn wrong(
     })
 }
 
-fn as_it_is(client: &mut Client, _: u32, message: Message) -> (u8, Answer) {
+fn as_it_is(client: &mut Client, _: u32, message: Message) -> (u16, Answer) {
     Thin::take(client, message)
 }
 
 /// A move that is held already is taken once more.
-fn twice(client: &mut Client, _: u32, message: Message) -> (u8, Answer) {
+fn twice(client: &mut Client, _: u32, message: Message) -> (u16, Answer) {
     let count = client.ask().count;
     let number = match message.number <= count {
         true => count + 1,
@@ -98,12 +98,12 @@ fn twice(client: &mut Client, _: u32, message: Message) -> (u8, Answer) {
 }
 
 /// A move of another game is taken.
-fn any_game(client: &mut Client, game: u32, message: Message) -> (u8, Answer) {
+fn any_game(client: &mut Client, game: u32, message: Message) -> (u16, Answer) {
     Thin::take(client, Message { game, ..message })
 }
 
 /// 18 is given before 17.
-fn eighteen_first(client: &mut Client, _: u32, message: Message) -> (u8, Answer) {
+fn eighteen_first(client: &mut Client, _: u32, message: Message) -> (u16, Answer) {
     match Thin::take(client, message) {
         (17, answer) if message.number != answer.count + 1 => (18, answer),
         taken => taken,
@@ -138,18 +138,18 @@ struct WrongServer {
 }
 
 impl Serves for WrongServer {
-    fn add(&mut self, code: u8) -> u8 {
+    fn add(&mut self, code: u8) -> u16 {
         Serves::add(&mut self.server, code)
     }
 
-    fn take_back(&mut self) -> u8 {
+    fn take_back(&mut self) -> u16 {
         match self.any {
             true => Serves::take_back(&mut self.server),
             false => 0,
         }
     }
 
-    fn message(&self, number: u16) -> Result<Message, u8> {
+    fn message(&self, number: u16) -> Result<Message, u16> {
         Serves::message(&self.server, number)
     }
 

@@ -1,20 +1,18 @@
-//! That the times, tables and pictures say what they should, and that a quick run agrees.
+//! That the times and tables say what they should, and that a quick run agrees.
 
-use std::collections::BTreeSet;
 use std::process::{Command, Output};
 use std::time::{Duration, Instant};
 
 use oracle::boards::{self, Dice};
-use oracle::{left_out, naive, original};
-use renju::Cells;
+use oracle::naive;
 use runs::reading::{read, read_held};
 use runs::timing::games::{self, Games};
 use runs::timing::race::{self, Pace, Race, Times};
-use runs::timing::rows::{Changes, Form, Lists, Other, Texts, Verdicts};
+use runs::timing::rows::{Changes, Form, Lists, Other, Texts, Turns, Verdicts, Written};
 use runs::timing::sets::Ready;
 use runs::timing::stats::{Histogram, Summary, percentile, side_by_side};
 use runs::timing::suite::{self, Settings};
-use runs::timing::{machine, picture, sets, table};
+use runs::timing::{machine, sets, table};
 
 #[test]
 fn percentiles_of_known_values() {
@@ -40,120 +38,56 @@ fn percentiles_of_known_values() {
     assert_eq!(Summary::of(&[]), Summary::default());
 }
 
+/// Each time lies in the bucket that names it: the buckets touch, begin at 0 and have no end.
 #[test]
-fn each_edge_begins_its_bucket() {
-    for bucket in 0..50 {
-        let edge = Histogram::edge(bucket);
-        assert_eq!(Histogram::bucket(edge), bucket);
-        assert_eq!(Histogram::bucket(edge * 0.999), bucket.saturating_sub(1));
-        assert!(Histogram::edge(bucket + 1) / edge < 1.3, "{edge}");
+fn no_bucket_is_labelled_by_a_time_that_it_does_not_hold() {
+    let times = [
+        0.0, 0.001, 0.0099, 0.01, 0.0159, 0.016, 1.0, 99_999.0, 100_000.0, 1e9,
+    ];
+    for time in times {
+        let (from, to) = Histogram::edges(Histogram::bucket(time));
+        assert!(from <= time && time < to, "{time}: {from} to {to}");
     }
-    // What lies outside goes to the ends.
-    assert_eq!(Histogram::bucket(0.0), 0);
-    assert_eq!(Histogram::bucket(1e9), 49);
+    let last = Histogram::bucket(f64::MAX);
+    assert_eq!(
+        (Histogram::edges(0).0, Histogram::edges(last).1),
+        (0.0, f64::INFINITY)
+    );
+    for bucket in 0..last {
+        let (from, to) = Histogram::edges(bucket);
+        assert_eq!(
+            (Histogram::bucket(from), Histogram::bucket(to)),
+            (bucket, bucket + 1)
+        );
+        assert_eq!(Histogram::edges(bucket + 1).0, to);
+        assert!(bucket == 0 || to / from < 1.61, "{from} to {to}");
+    }
 }
 
 #[test]
-fn two_histograms_side_by_side() {
-    let left = Histogram::of(&[20.0, 21.0, 24.9, 33.0]);
-    let right = Histogram::of(&[33.0]);
-    let text = side_by_side(["old", "new"], [&left, &right]);
+fn histograms_side_by_side() {
+    let left = Histogram::of(&[20.0, 21.0, 24.9, 42.0]);
+    let right = Histogram::of(&[42.0]);
+    let text = side_by_side(&["old", "new"], &[left, right]);
     let lines: Vec<&str> = text.lines().collect();
     assert_eq!(lines.len(), 4, "{text}");
     let bars = |line: &str| -> Vec<usize> {
         let bar = |word: &&str| word.starts_with('#');
         line.split_whitespace().filter(bar).map(str::len).collect()
     };
-    assert!(
-        lines[1].starts_with("      20       25       3 #"),
-        "{text}"
-    );
-    assert_eq!(bars(lines[1]), [30]);
+    assert!(lines[1].starts_with("      16       25     3 #"), "{text}");
+    assert_eq!(bars(lines[1]), [36]);
     assert_eq!(bars(lines[2]), [0; 0]);
-    assert_eq!(bars(lines[3]), [10, 10]);
-    // No times at all still make a table.
-    let none = Histogram::of(&[]);
+    assert_eq!(bars(lines[3]), [12, 12]);
+    // The last bucket has no end, and no times at all still make a table.
+    let long = side_by_side(&["old"], &[Histogram::of(&[1e9])]);
+    assert!(long.contains("  100000      any     1 #"), "{long}");
     assert_eq!(
-        side_by_side(["old", "new"], [&none, &none]).lines().count(),
+        side_by_side(&["old"], &[Histogram::of(&[])])
+            .lines()
+            .count(),
         2
     );
-}
-
-/// Some games and nested boards.
-fn some_boards() -> Vec<Cells> {
-    let mut dice = Dice::new(5);
-    let mut made = vec![[0; 225]];
-    made.extend((0..4).map(|n| boards::game(&mut dice, 20 * n + 10)));
-    made.extend((0..6).map(|_| boards::nested(&mut dice)));
-    let cells = made.iter().map(|bytes| Cells::from_bytes(bytes));
-    cells
-        .collect::<Result<_, _>>()
-        .expect("cells of 0, 1 and 2")
-}
-
-#[test]
-fn a_picture_has_a_cross_for_each_of_the_list() {
-    let mut crosses_seen = 0;
-    for cells in some_boards() {
-        let crosses = cells.forbidden_points();
-        let text = picture::svg(&cells, &crosses, "");
-        assert_eq!(text.matches("class=\"cross\"").count(), crosses.len());
-        let board = original::to_board(cells.as_bytes());
-        let list = left_out::forbidden_list(cells.as_bytes(), &board).answer;
-        assert_eq!(crosses.len(), list.len());
-        for cross in &crosses {
-            assert!(text.contains(&format!("<title>{cross}</title>")), "{cross}");
-        }
-        crosses_seen += crosses.len();
-    }
-    assert!(crosses_seen > 20, "{crosses_seen}");
-}
-
-/// The stones by their places in the picture, which are those of the diagram's letters: the first
-/// line is the uppermost row.
-#[test]
-fn a_picture_lies_as_the_diagram_does() {
-    for cells in some_boards() {
-        let diagram = original::to_board(cells.as_bytes()).to_string();
-        let mut expected = BTreeSet::new();
-        for (row, line) in diagram.lines().enumerate() {
-            for (column, letter) in line.split_whitespace().enumerate() {
-                let class = match letter {
-                    "o" => "black",
-                    "x" => "white",
-                    _ => continue,
-                };
-                let (x, y) = (56 + 40 * column, 56 + 40 * row);
-                expected.insert(format!("class=\"{class}\" cx=\"{x}\" cy=\"{y}\" r=\"18\""));
-            }
-        }
-        let text = picture::svg(&cells, &[], "");
-        let circles = text.split("<circle ").skip(1);
-        let head = |part: &str| part.split('>').next().map(String::from);
-        let stones = circles.filter_map(head).filter(|c| !c.contains("star"));
-        assert_eq!(stones.collect::<BTreeSet<_>>(), expected);
-    }
-}
-
-/// Every element is closed, the last opened first.
-#[test]
-fn a_picture_is_well_formed() {
-    for cells in some_boards() {
-        let text = picture::svg(&cells, &cells.forbidden_points(), "a < b & c > d");
-        assert!(text.contains("a &lt; b &amp; c &gt; d"));
-        let mut open = Vec::new();
-        for part in text.split('<').skip(1) {
-            let (tag, after) = part.split_once('>').expect("a tag ends");
-            assert!(!after.contains('>'), "{after}");
-            let name = tag.split([' ', '/']).next().unwrap_or_default();
-            if let Some(closed) = tag.strip_prefix('/') {
-                assert_eq!(open.pop(), Some(closed));
-            } else if !tag.ends_with('/') {
-                open.push(name);
-            }
-        }
-        assert_eq!(open, [""; 0]);
-    }
 }
 
 /// Remembers who was asked what, and disagrees on one question.
@@ -280,8 +214,16 @@ fn every_kind_of_question_sees_a_difference() {
     for form in Form::ALL {
         assert_eq!(first(&mut Changes::new(good.to_vec(), form)), None);
         assert_eq!(first(&mut Changes::new(bad.to_vec(), form)), Some(0));
-        assert_eq!(first(&mut Texts::new(good.iter().collect(), form)), None);
-        assert_eq!(first(&mut Texts::new(bad.iter().collect(), form)), Some(0));
+        assert_eq!(first(&mut Turns::new(good.to_vec(), form)), None);
+        assert_eq!(first(&mut Turns::new(bad.to_vec(), form)), Some(0));
+        for written in Written::ALL {
+            let read = |board: &Ready| first(&mut Texts::new(vec![board], written, form));
+            let mut board = sets::games(7, 20, 1).boards.remove(0);
+            assert_eq!(read(&board), None, "{written:?}");
+            let code = board.empty().next().expect("an empty point");
+            board.cells[usize::from(code)] = 1;
+            assert_eq!(read(&board), Some(0), "{written:?}");
+        }
     }
 }
 
@@ -341,9 +283,9 @@ fn a_quick_run_agrees() {
     let mut told = 0;
     let settings = Settings::quick(3);
     let rows = suite::run(&settings, |_| told += 1).expect("the answers agree");
-    assert_eq!((rows.len(), told), (18, 18));
+    assert_eq!((rows.len(), told), (24, 24));
     let second = suite::run_second(&settings, |_| told += 1).expect("the answers agree");
-    assert_eq!((second.len(), told), (10, 28));
+    assert_eq!((second.len(), told), (10, 34));
     for row in rows.iter().chain(&second) {
         let name = format!("{} {}", row.question, row.boards);
         assert!(
@@ -353,8 +295,8 @@ fn a_quick_run_agrees() {
     }
     let lines = |text: String| text.lines().count();
     let sides = ["second", "fast"];
-    assert_eq!(lines(table::plain(&rows, sides)), 19);
-    assert_eq!(lines(table::markdown(&rows, sides)), 20);
+    assert_eq!(lines(table::plain(&rows, sides)), 25);
+    assert_eq!(lines(table::markdown(&rows, sides)), 26);
     let text = table::plain(&second, sides);
     assert!(
         text.contains("  second p50  second p99  fast p50  "),
@@ -376,7 +318,7 @@ fn the_program_prints_a_table() {
     assert!(text.contains("- Seed: 7.\n"), "{text}");
     let table: Vec<&str> = text.lines().filter(|l| l.starts_with('|')).collect();
     // Two heads, each with a rule below it: the original's rows, and the second referee's.
-    assert_eq!(table.len(), 2 + 18 + 2 + 10, "{text}");
+    assert_eq!(table.len(), 2 + 24 + 2 + 10, "{text}");
     assert!(table.iter().all(|l| l.matches('|').count() == 12), "{text}");
     assert_eq!(bench(&["soon"]).status.code(), Some(2));
 }

@@ -12,7 +12,7 @@
 
 enum { PAGE = 4096, STACK = 64 * PAGE };
 
-static uint8_t cells[RENJU_CELLS];
+static uint8_t cells[RENJU_CELLS_BYTES];
 static uint8_t code;
 static size_t bytes;
 static uint8_t *lowest; /* the lowest byte of the thread's stack */
@@ -39,7 +39,7 @@ int main(int count, char **words) {
     if (count != 4) {
         return 2;
     }
-    if (renju_read((const uint8_t *)words[1], strlen(words[1]), cells, sizeof cells) != RENJU_CELLS) {
+    if (renju_read((const uint8_t *)words[1], strlen(words[1]), cells, sizeof cells) != RENJU_CELLS_BYTES) {
         return 2;
     }
     code = (uint8_t)atoi(words[2]);

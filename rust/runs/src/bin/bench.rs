@@ -85,7 +85,8 @@ fn conditions(settings: &Settings) -> String {
 - Seed: {seed}.
 - Boards: {games} games of each number of stones and {nested} nested boards. Verdicts are asked at
   every empty point of the first {by_point} of each; put and remove at every empty point of the
-  first {changed} games of each number of stones.
+  first {changed} games of each number of stones, again and again at one point, then on all these
+  boards by turns: a stone put on each, then taken off each.
 - Whole games: {played} of each length, without a fault. Those of 20 and 60 moves are played, those
   of 120 and 225 are full boards without a five, put stone by stone. The original is asked at each
   move whether the point is free, for the strict verdict where Black moves, and after the stone is

@@ -15,7 +15,7 @@ pub struct Plain {
 
 /// "17 for a foreign game, then 18 for a number that is not next, then 8, then 14 for a 226th
 /// move"; 0 where the client takes it.
-pub fn take_refusal(game: u32, count: usize, message: Message) -> u8 {
+pub fn take_refusal(game: u32, count: usize, message: Message) -> u16 {
     if message.game != game {
         17
     } else if usize::from(message.number) != count + 1 {
@@ -25,7 +25,7 @@ pub fn take_refusal(game: u32, count: usize, message: Message) -> u8 {
     }
 }
 
-pub fn add_refusal(count: usize, code: u8) -> u8 {
+pub fn add_refusal(count: usize, code: u8) -> u16 {
     if code > 224 {
         8
     } else if count >= 225 {
@@ -63,7 +63,7 @@ impl Plain {
         &self.lists[&self.game]
     }
 
-    pub fn add(&mut self, code: u8) -> u8 {
+    pub fn add(&mut self, code: u8) -> u16 {
         let list = self.lists.get_mut(&self.game).expect("a list");
         let refused = add_refusal(list.len(), code);
         if refused == 0 {
@@ -74,7 +74,7 @@ impl Plain {
 
     /// "A takeback opens a new game number, never used before, with a client started once, empty,
     /// for it."
-    pub fn take_back(&mut self) -> u8 {
+    pub fn take_back(&mut self) -> u16 {
         let Some(game) = self.game.checked_add(1) else {
             return 17;
         };
@@ -87,15 +87,15 @@ impl Plain {
         0
     }
 
-    pub fn message(&self, number: u16) -> Result<Message, u8> {
+    pub fn message(&self, number: u16) -> Result<Message, u16> {
         let place = usize::from(number).wrapping_sub(1);
-        let code = *self.list().get(place).ok_or(18)?;
+        let code = *self.list().get(place).ok_or(18u16)?;
         let game = self.game;
         Ok(Message { game, number, code })
     }
 
     /// A message at the client of a game.
-    pub fn take(&mut self, game: u32, message: Message) -> u8 {
+    pub fn take(&mut self, game: u32, message: Message) -> u16 {
         let held = self.held.get_mut(&game).expect("a client");
         let refused = take_refusal(game, held.len(), message);
         if refused == 0 {

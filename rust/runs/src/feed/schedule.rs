@@ -235,7 +235,7 @@ impl<'a> Schedule<'a> {
                 let part = renju::feed::missing(first, second);
                 let lies = part.map_err(Refusal::number) == part_of(first, second);
                 self.tally
-                    .hold(MISSING, (must >> 16) as u8, must == got && lies, || {
+                    .hold(MISSING, (must >> 16) as u16, must == got && lies, || {
                         format!("{first:?}, {second:?}: {must}, got {got}")
                     });
             }
@@ -306,7 +306,7 @@ impl<'a> Schedule<'a> {
 }
 
 /// The part that the shorter of two lists lacks, or 19.
-fn part_of<'a>(first: &'a [u8], second: &'a [u8]) -> Result<&'a [u8], u8> {
+fn part_of<'a>(first: &'a [u8], second: &'a [u8]) -> Result<&'a [u8], u16> {
     first
         .strip_prefix(second)
         .or_else(|| second.strip_prefix(first))

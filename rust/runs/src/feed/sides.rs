@@ -6,7 +6,7 @@ use renju::{Cells, Refusal};
 
 /// A client; 0 for what is not refused.
 pub trait Thin {
-    fn take(&mut self, message: Message) -> (u8, Answer);
+    fn take(&mut self, message: Message) -> (u16, Answer);
     fn ask(&self) -> Answer;
     fn codes(&self) -> &[u8];
     fn cells(&self) -> Cells;
@@ -14,9 +14,9 @@ pub trait Thin {
 
 /// A server.
 pub trait Serves {
-    fn add(&mut self, code: u8) -> u8;
-    fn take_back(&mut self) -> u8;
-    fn message(&self, number: u16) -> Result<Message, u8>;
+    fn add(&mut self, code: u8) -> u16;
+    fn take_back(&mut self) -> u16;
+    fn message(&self, number: u16) -> Result<Message, u16>;
     fn hear(&mut self, answer: Answer);
     fn holds_all(&self) -> bool;
     fn game(&self) -> u32;
@@ -39,12 +39,12 @@ pub const OURS: Sides = Sides {
     missing: renju_feed_missing,
 };
 
-fn number(refusal: Option<Refusal>) -> u8 {
+fn number(refusal: Option<Refusal>) -> u16 {
     refusal.map_or(0, Refusal::number)
 }
 
 impl Thin for Client {
-    fn take(&mut self, message: Message) -> (u8, Answer) {
+    fn take(&mut self, message: Message) -> (u16, Answer) {
         let taken = self.take(message);
         (number(taken.refusal), taken.answer)
     }
@@ -63,15 +63,15 @@ impl Thin for Client {
 }
 
 impl Serves for Server {
-    fn add(&mut self, code: u8) -> u8 {
+    fn add(&mut self, code: u8) -> u16 {
         number(self.add(code).err())
     }
 
-    fn take_back(&mut self) -> u8 {
+    fn take_back(&mut self) -> u16 {
         number(self.take_back().err())
     }
 
-    fn message(&self, number: u16) -> Result<Message, u8> {
+    fn message(&self, number: u16) -> Result<Message, u16> {
         self.message(number).map_err(Refusal::number)
     }
 

@@ -52,7 +52,7 @@ pub struct Tally {
 
 impl Tally {
     /// One comparison of something that was to be refused so (0: not).
-    pub fn hold(&mut self, name: usize, refused: u8, same: bool, say: impl FnOnce() -> String) {
+    pub fn hold(&mut self, name: usize, refused: u16, same: bool, say: impl FnOnce() -> String) {
         let count = &mut self.counts[name];
         count.comparisons += 1;
         count.refusals[usize::from(refused)] += 1;

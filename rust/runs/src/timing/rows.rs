@@ -277,18 +277,152 @@ impl Race for Changes {
     }
 }
 
-/// A plain diagram read: the converter's reader.
+/// The same on many boards by turns: a stone put on each, then taken off each. A call then reads
+/// no cell that the call before has just written, which is how a server with many tables calls.
+pub struct Turns {
+    boards: Vec<Ready>,
+    /// Of each board its empty points.
+    places: Vec<Vec<u8>>,
+    form: Form,
+}
+
+impl Turns {
+    pub fn new(boards: Vec<Ready>, form: Form) -> Self {
+        let places = boards.iter().map(|board| board.empty().collect()).collect();
+        Self {
+            boards,
+            places,
+            form,
+        }
+    }
+
+    /// The board and the point of a call.
+    fn place(&self, question: usize, call: usize) -> (usize, u8) {
+        let n = call % self.boards.len();
+        (n, self.places[n][question])
+    }
+}
+
+impl Race for Turns {
+    fn count(&self) -> usize {
+        self.places.iter().map(Vec::len).min().unwrap_or(0)
+    }
+
+    fn agrees(&mut self, question: usize) -> bool {
+        (0..self.boards.len()).all(|call| {
+            let (n, code) = self.place(question, call);
+            let mut alone = Changes {
+                boards: vec![self.boards[n].clone()],
+                places: vec![(0, code)],
+                form: self.form,
+            };
+            alone.agrees(0)
+        })
+    }
+
+    fn other(&mut self, question: usize, calls: usize) {
+        for call in 0..calls {
+            let (n, code) = self.place(question, call);
+            let point = black_box(original::point(code));
+            match self.form {
+                Form::Board => black_box(&mut self.boards[n].board).put(Player::Black, point),
+                Form::Grid => black_box(&mut self.boards[n].grid).put(Player::Black, point),
+            }
+        }
+        for call in 0..calls {
+            let (n, code) = self.place(question, call);
+            let point = black_box(original::point(code));
+            match self.form {
+                Form::Board => black_box(&mut self.boards[n].board).remove(point),
+                Form::Grid => black_box(&mut self.boards[n].grid).remove(point),
+            }
+        }
+    }
+
+    fn ours(&mut self, question: usize, calls: usize) {
+        for call in 0..calls {
+            let (n, code) = self.place(question, call);
+            let cells = black_box(&mut self.boards[n].cells);
+            black_box(raw::renju_put(cells, black_box(code), 1));
+        }
+        for call in 0..calls {
+            let (n, code) = self.place(question, call);
+            let cells = black_box(&mut self.boards[n].cells);
+            black_box(raw::renju_remove(cells, black_box(code)));
+        }
+    }
+}
+
+/// In which form a board is written.
+#[derive(Debug, Clone, Copy, PartialEq, Eq)]
+pub enum Written {
+    /// A plain diagram, which the converter's reader reads.
+    Diagram,
+    /// Two lists of points, and a list of moves: the live entry.
+    Stones,
+    Moves,
+}
+
+impl Written {
+    pub const ALL: [Self; 3] = [Self::Diagram, Self::Stones, Self::Moves];
+
+    pub fn words(self) -> &'static str {
+        match self {
+            Self::Diagram => "read a diagram",
+            Self::Stones => "read stones",
+            Self::Moves => "read moves",
+        }
+    }
+
+    /// The text of the original's board. Moves are by turns, each colour's by code.
+    fn text(self, ready: &Ready) -> String {
+        let cells = original::to_cells(&ready.board);
+        let names = |colour: u8| -> Vec<String> {
+            let stone = |code: &u8| cells[usize::from(*code)] == colour;
+            let name = |code: u8| format!("{}{}", char::from(b'A' + code / 15), code % 15 + 1);
+            (0..225).filter(stone).map(name).collect()
+        };
+        let (blacks, whites) = (names(1), names(2));
+        match self {
+            Self::Diagram => ready.text.clone(),
+            Self::Stones => format!("{}/{}", blacks.join(","), whites.join(",")),
+            Self::Moves => {
+                let turn = |n| {
+                    [blacks.get(n), whites.get(n)]
+                        .into_iter()
+                        .flatten()
+                        .cloned()
+                };
+                let moves: Vec<String> = (0..blacks.len()).flat_map(turn).collect();
+                moves.join(",")
+            }
+        }
+    }
+
+    fn read(self, text: &[u8], cells: &mut Cells) -> u32 {
+        match self {
+            Self::Diagram => raw::renju_read_diagram(text, cells),
+            Self::Stones | Self::Moves => raw::renju_read(text, cells),
+        }
+    }
+}
+
+/// A text read.
 pub struct Texts<'a> {
     boards: Vec<&'a Ready>,
+    texts: Vec<String>,
+    written: Written,
     form: Form,
     /// Lent to each call; zeroed once, here.
     cells: Cells,
 }
 
 impl<'a> Texts<'a> {
-    pub fn new(boards: Vec<&'a Ready>, form: Form) -> Self {
+    pub fn new(boards: Vec<&'a Ready>, written: Written, form: Form) -> Self {
         Self {
+            texts: boards.iter().map(|ready| written.text(ready)).collect(),
             boards,
+            written,
             form,
             cells: [0; 225],
         }
@@ -301,14 +435,14 @@ impl Race for Texts<'_> {
     }
 
     fn agrees(&mut self, question: usize) -> bool {
-        let ready = self.boards[question];
-        let answer = raw::renju_read_diagram(ready.text.as_bytes(), &mut self.cells);
-        let same = self.cells == ready.cells;
-        answer == 225 && same && original::read(&ready.text) == Ok(self.cells)
+        let text = &self.texts[question];
+        let answer = self.written.read(text.as_bytes(), &mut self.cells);
+        let same = self.cells == self.boards[question].cells;
+        answer == 225 && same && original::read(text) == Ok(self.cells)
     }
 
     fn other(&mut self, question: usize, calls: usize) {
-        let text = &self.boards[question].text;
+        let text = &self.texts[question];
         for _ in 0..calls {
             match self.form {
                 Form::Board => drop(black_box(black_box(text).parse::<Board>())),
@@ -318,9 +452,9 @@ impl Race for Texts<'_> {
     }
 
     fn ours(&mut self, question: usize, calls: usize) {
-        let text = self.boards[question].text.as_bytes();
+        let text = self.texts[question].as_bytes();
         for _ in 0..calls {
-            black_box(raw::renju_read_diagram(black_box(text), &mut self.cells));
+            black_box(self.written.read(black_box(text), &mut self.cells));
         }
     }
 }

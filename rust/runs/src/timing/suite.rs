@@ -4,7 +4,7 @@ use std::fmt;
 
 use super::games::{self, Games};
 use super::race::{self, Pace, Race};
-use super::rows::{Changes, Form, Lists, Other, Texts, Verdicts};
+use super::rows::{Changes, Form, Lists, Other, Texts, Turns, Verdicts, Written};
 use super::sets::{self, Set};
 use super::table::Row;
 
@@ -163,12 +163,16 @@ pub fn run(settings: &Settings, report: impl FnMut(&Row)) -> Result<Vec<Row>, Di
         table.add("put and remove", form.words(), &mut changes)?;
     }
     for form in Form::ALL {
-        let boards = games.iter().flat_map(|s| &s.boards).collect();
-        table.add(
-            "read a diagram",
-            form.words(),
-            &mut Texts::new(boards, form),
-        )?;
+        let boards = games.iter().flat_map(|s| &s.boards[..settings.changed]);
+        let mut turns = Turns::new(boards.cloned().collect(), form);
+        table.add("the same by turns", form.words(), &mut turns)?;
+    }
+    for written in Written::ALL {
+        for form in Form::ALL {
+            let boards = games.iter().flat_map(|s| &s.boards).collect();
+            let mut texts = Texts::new(boards, written, form);
+            table.add(written.words(), form.words(), &mut texts)?;
+        }
     }
     for length in games::LENGTHS {
         let made = games::games(settings.seed, length, settings.played);

@@ -7,11 +7,11 @@ use Rattle.board.proofs.count.refusal_on.Tie as tie
 lines-refusal-requires : tie.Need-lines-refusal-requires
 lines-refusal-requires c κs = search needs
 
-stones-on-requires : tie.Need-stones-on-requires
-stones-on-requires c κs = search needs
+count-on-requires : tie.Need-count-on-requires
+count-on-requires c κs = search needs
 
-stones-on-requires-2 : tie.Need-stones-on-requires-2
-stones-on-requires-2 c κs = search needs
+count-on-requires-2 : tie.Need-count-on-requires-2
+count-on-requires-2 c κs = search needs
 
 unless-requires : tie.Need-unless-requires
 unless-requires c κs = search needs
@@ -26,8 +26,8 @@ returns c =
     simp (
       c .first .ensures,
       c .before .unless .ensures,
-      w .stones-on2 .ensures,
-      w .before .stones-on .ensures,
+      w .count-on2 .ensures,
+      w .before .count-on .ensures,
       w .before .before .lines-refusal .ensures,
     )
     (refusal-shown (a .lines .now) (a .blacks) (a .whites))
@@ -37,8 +37,8 @@ refusal-on-spec =
     tie.close
     (tie.spec
     lines-refusal-requires
-    stones-on-requires
-    stones-on-requires-2
+    count-on-requires
+    count-on-requires-2
     unless-requires
     first-requires
     returns)

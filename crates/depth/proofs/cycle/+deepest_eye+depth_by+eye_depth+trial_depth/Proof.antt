@@ -18,7 +18,7 @@ use Rattle.grid.specs.Lines.{cellsOf, Sound}
 use Rattle.grid.proofs.Lines.{length-cellsOf}
 use Rattle.referee.proofs.RowsSeen.{triable}
 use Rattle.referee.proofs.EyeFound.{eye-small, eye-empty}
-use Rattle.referee.proofs.Asked.{on-sound, on-cells, on-fewer, on-threes, off-same, fewer}
+use Rattle.referee.proofs.Asked.{on-sound, on-cells, on-fewer, on-threes, added, lifted, fewer}
 use Rattle.depth.proofs.Looked.{empty-is, none-below, not-before, nested-seen, five-counts, deep-counts}
 use borrow.Fn.Kinds.{In}
 use borrow.Fn.PlainCycle.{Measures, is, falls, and}
@@ -38,8 +38,7 @@ use Rattle.depth.proofs.look.asks_nested.Reads as asks-nested-reads
 use Rattle.depth.proofs.look.eye_at.Reads as eye-at-reads
 use Rattle.depth.proofs.look.larger.Reads as larger-reads
 use Rattle.depth.proofs.look.rows_at.Reads as rows-at-reads
-use Rattle.grid.proofs.put_on.Reads as put-on-reads
-use Rattle.grid.proofs.remove_on.Reads as remove-on-reads
+use Rattle.grid.proofs.mark_on.Reads as mark-on-reads
 use Rattle.near.proofs.next_start.Reads as next-start-reads
 use Rattle.near.proofs.some_row.Reads as some-row-reads
 use Rattle.depth.proofs.cycle.+deepest_eye+depth_by+eye_depth+trial_depth.{statement}
@@ -132,12 +131,10 @@ eye-depth-calls t = (
 -- what `trial-depth` is told of those that it calls
 abbrev trial-depth-calls : ℕ → trial-depth-lts.Claims
 trial-depth-calls t = (
-  put-on-reads.Asked,
-  put-on-reads.Learnt,
+  mark-on-reads.Asked,
+  mark-on-reads.Learnt,
   deepest-eye-below t,
   deepest-eye.Post,
-  remove-on-reads.Asked,
-  remove-on-reads.Learnt,
 )
 
 deepest-eye-next-start-requires : (t : ℕ) → deepest-eye-lts.Need-next-start-requires (deepest-eye-calls t)
@@ -341,8 +338,8 @@ eye-depth-returns-2 t c =
       c .depth-by .ensures .1,
     )
 
-trial-depth-put-on-requires : (t : ℕ) → trial-depth-lts.Need-put-on-requires (trial-depth-calls t) (trial-depth-at t) trial-depth.Post
-trial-depth-put-on-requires t c κs = search needs
+trial-depth-mark-on-requires : (t : ℕ) → trial-depth-lts.Need-mark-on-requires (trial-depth-calls t) (trial-depth-at t) trial-depth.Post
+trial-depth-mark-on-requires t c κs = search needs
 
 trial-depth-deepest-eye-requires : (t : ℕ) → trial-depth-lts.Need-deepest-eye-requires (trial-depth-calls t) (trial-depth-at t) trial-depth.Post
 trial-depth-deepest-eye-requires t c κs =
@@ -351,15 +348,15 @@ trial-depth-deepest-eye-requires t c κs =
     let p = s .args .code in
     let hp = s .pre .1 .0 in
     let q = s .pre .1 .1 in
-    let w = c .before .put-on .ensures in
+    let w = added L (s .args .table .now) p (s .pre .1 .2) (q .sound) hp (q .free) (c .before .mark-on .ensures) in
     let m = s .pre .0 in
     let f = on-fewer L p (q .sound) hp (q .free) w in (
       omega arith,
       (on-sound L p (q .sound) hp (q .free) w, hp, on-threes L p (q .sound) hp (q .free) w (q .starts), s .pre .1 .2),
     )
 
-trial-depth-remove-on-requires : (t : ℕ) → trial-depth-lts.Need-remove-on-requires (trial-depth-calls t) (trial-depth-at t) trial-depth.Post
-trial-depth-remove-on-requires t c κs = search needs
+trial-depth-mark-on-requires-2 : (t : ℕ) → trial-depth-lts.Need-mark-on-requires-2 (trial-depth-calls t) (trial-depth-at t) trial-depth.Post
+trial-depth-mark-on-requires-2 t c κs = search needs
 
 trial-depth-returns : (t : ℕ) → trial-depth-lts.Need-returns (trial-depth-calls t) (trial-depth-at t) trial-depth.Post
 trial-depth-returns t c =
@@ -370,9 +367,11 @@ trial-depth-returns t c =
     let p = s .args .code in
     let hp = s .pre .1 .0 in
     let q = s .pre .1 .1 in
-    let w = a .put-on .ensures in (
+    let T = s .args .table .now in
+    let e = a .mark-on .ensures in
+    let w = added L T p (s .pre .1 .2) (q .sound) hp (q .free) e in (
       r .ensures .0 ∙ ap (λ (C : List ℕ). deepest depthOf C p) (on-cells L p (q .sound) hp (q .free) w),
-      off-same L p (q .sound) hp (q .free) w (r .ensures .1) (c .remove-on .ensures),
+      lifted L T p (s .pre .1 .2) (q .sound) hp (q .free) e (r .ensures .1) (c .mark-on2 .ensures),
     )
 
 pub +deepest-eye+depth-by+eye-depth+trial-depth-spec : {M : Type 1} → statement M
@@ -411,7 +410,7 @@ pub +deepest-eye+depth-by+eye-depth+trial-depth-spec : {M : Type 1} → statemen
     λ t. trial-depth-lts.spec (trial-depth-calls t)
     (trial-depth-at t)
     trial-depth.Post
-    (trial-depth-put-on-requires t)
+    (trial-depth-mark-on-requires t)
     (trial-depth-deepest-eye-requires t)
-    (trial-depth-remove-on-requires t)
+    (trial-depth-mark-on-requires-2 t)
     (trial-depth-returns t)

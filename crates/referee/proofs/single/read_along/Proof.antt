@@ -1,14 +1,14 @@
--- `referee::single::stones_along` meets its contract: the two halves have the stones of the cells from j on. Assumes nothing.
+-- `referee::single::read_along` meets its contract: the two halves have the stones of the cells from j on. Assumes nothing.
 use Prim.Native.Nat.{_-_}
 use native.Mathlib.Omega.{arith}
 use lib.ListN.{getD}
 use borrow.Author.Needs.{needs}
 use mathlib.Core.Path.{refl}
 use Rattle.referee.proofs.Backward.{Read, back-le, long-le, read-start, read-on, read-end, room, halves-le, step-room, stands-lt}
-use Rattle.referee.proofs.single.stones_along.Statement.{statement}
-use Rattle.referee.proofs.single.stones_along.Tie as tie
-use Rattle.referee.proofs.single.stones_along.Reads as reads
-use Rattle.referee.proofs.single.stones_along.Lts as lts
+use Rattle.referee.proofs.single.read_along.Statement.{statement}
+use Rattle.referee.proofs.single.read_along.Tie as tie
+use Rattle.referee.proofs.single.read_along.Reads as reads
+use Rattle.referee.proofs.single.read_along.Lts as lts
 use Rattle.point.proofs.cell_no.Reads as cell-no-reads
 use Rattle.point.proofs.line_no.Reads as line-no-reads
 use Rattle.point.proofs.line_size.Reads as line-size-reads
@@ -139,8 +139,8 @@ returns c =
     let s = l .before .before .before .before .before .before in
     read-end (s .args .cells .now) (s .args .d) (s .args .code) (l .loop .inv) (c .loop-test .left)
 
-pub stones-along-spec : {M : Type 1} → statement M
-stones-along-spec =
+pub read-along-spec : {M : Type 1} → statement M
+read-along-spec =
     tie.close
     (tie.spec
     Inv-loop

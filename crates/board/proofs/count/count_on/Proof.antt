@@ -1,4 +1,4 @@
--- `board::count::stones_on` meets its contract: after x columns it has the stones of the points in them. Assumes nothing.
+-- `board::count::count_on` meets its contract: after x columns it has the stones of the points in them. Assumes nothing.
 use mathlib.Core.Path.{_≡_, refl, ap, _∙_}
 use Prim.Native.Nat.{ℕ, _*_, _-_, _≤_}
 use native.Mathlib.Omega.{arith}
@@ -7,8 +7,8 @@ use Rattle.rules.specs.Bit.{bit, countOf}
 use Rattle.rules.proofs.Bits.{count-le}
 use Rattle.board.specs.Boards.{stonesShown}
 use Rattle.board.proofs.Counted.{shownAt, shown-few, shown-step}
-use Rattle.board.proofs.count.stones_on.Statement.{statement}
-use Rattle.board.proofs.count.stones_on.Tie as tie
+use Rattle.board.proofs.count.count_on.Statement.{statement}
+use Rattle.board.proofs.count.count_on.Tie as tie
 
 abbrev Inv-loop : tie.InvT-loop
 Inv-loop lines player n₀ x₀ n x = (x ≤ 15) × (n ≡ countOf (15 * x) (shownAt player lines))
@@ -56,8 +56,8 @@ returns c =
     let e : 15 * s .loop .x ≡ 225 = omega arith in
     s .loop .inv .1 ∙ ap (λ (n : ℕ). countOf n (shownAt (s .before .args .player) (s .before .args .lines .now))) e
 
-pub stones-on-spec : {M : Type 1} → statement M
-stones-on-spec =
+pub count-on-spec : {M : Type 1} → statement M
+count-on-spec =
     tie.close
     (tie.spec
     Inv-loop

@@ -1,0 +1,2 @@
+-- What the contracts of `canonical` cite beside the rules.
+pub mod Canonical
