@@ -5,7 +5,7 @@ use super::look::eye_at;
 use super::look::larger;
 use super::look::rows_at;
 use grid::cell_on;
-use grid::mark_on;
+use grid::mark_by;
 use near::Rows;
 use near::next_start;
 use near::some_row;
@@ -52,15 +52,15 @@ fn depth_by(lines: &mut [u16; 144], table: &[u16; 900], code: u8, rows: Rows) ->
 }
 
 // "on the board with the stone": it is put, the eyes are asked about, and it is taken off. The Twos through the point are then the Threes.
-// (By `mark_on`: were `add_on` and `lift_on` called from here too, they would no longer be compiled into the referee's cycle.)
+// (By `mark_by`: were `add_by` and `lift_by` called from here too, they would no longer be compiled into the referee's cycle.)
 fn trial_depth(lines: &mut [u16; 144], table: &[u16; 900], code: u8, twos: [u16; 4]) -> u8
     requires { ⌜ (code < 225) × Triable (now lines) code twos × (now table ≡ addresses) ⌝ }
     ensures { λ r. ⌜ (r ≡ deepest depthOf (withBlack (cellsOf (now (lines .entry))) code) code)
         × (now (lines .exit) ≡ now (lines .entry)) ⌝ }
 {
-    mark_on(lines, table, code, Player::Black, true);
+    mark_by(lines, table, code, Player::Black, true);
     let deep = deepest_eye(lines, table, code, twos);
-    mark_on(lines, table, code, Player::Black, false);
+    mark_by(lines, table, code, Player::Black, false);
     deep
 }
 

@@ -1,5 +1,5 @@
 // What one question looks at on the lines: Black's rows through a point, whether they lead to nested questions, and the eye of a Three.
-use grid::masks_on;
+use grid::masks_by;
 use near::Rows;
 use near::first_gap;
 use near::more_than_one;
@@ -26,8 +26,8 @@ pub(crate) fn rows_at(lines: &[u16; 144], table: &[u16; 900], code: u8) -> Rows
     requires { ⌜ Sound (now lines) × (code < 225) × (now table ≡ addresses) ⌝ }
     ensures { λ r. ⌜ RowsAre (blackRows (cellsOf (now (lines .entry))) code) r ⌝ }
 {
-    let blacks = masks_on(lines, table, code, Player::Black);
-    let whites = masks_on(lines, table, code, Player::White);
+    let blacks = masks_by(lines, table, code, Player::Black);
+    let whites = masks_by(lines, table, code, Player::White);
     rows_near(blacks, whites, code, true)
 }
 
@@ -60,7 +60,7 @@ pub(crate) fn eye_at(lines: &[u16; 144], table: &[u16; 900], code: u8, three: u8
     ensures { λ r. ⌜ r ≡ eyeOf (cellsOf (now (lines .entry))) code (three / 16) (three % 16) ⌝ }
 {
     let d = three / 16;
-    let blacks = masks_on(lines, table, code, Player::Black);
+    let blacks = masks_by(lines, table, code, Player::Black);
     let gap = first_gap(blacks[d as usize], three % 16);
     point_at(d, line_no(d, code), gap) as u8
 }

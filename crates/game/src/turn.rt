@@ -2,10 +2,10 @@
 // the rows through its point.
 use super::report::Reason;
 use super::report::Winner;
-use grid::add_on;
+use grid::add_by;
 use grid::cell_on;
 use grid::cells_on;
-use grid::stones_on;
+use grid::stones_by;
 use near::Rows;
 use near::rows_near;
 use near::some_row;
@@ -74,7 +74,7 @@ fn rows_for(lines: &[u16; 144], table: &[u16; 900], code: u8, player: Player) ->
     requires { ⌜ Sound (now lines) × (code < 225) × (now table ≡ addresses) ⌝ }
     ensures { λ r. ⌜ RowsAre (λ kind. rowsThrough player kind (cellsOf (now (lines .entry))) code) r ⌝ }
 {
-    let stones = stones_on(lines, table, code, player);
+    let stones = stones_by(lines, table, code, player);
     let own = stones.own;
     let other = stones.other;
     rows_near(own, other, code, player.is_black())
@@ -120,5 +120,5 @@ pub(crate) fn put_unless(
     if fault {
         return;
     }
-    add_on(lines, table, code, player);
+    add_by(lines, table, code, player);
 }

@@ -1,5 +1,5 @@
 // The 225 cells that the stored lines show, the lines of 225 cells, and whether lines are sound: those of their own cells.
-use super::store::add_on;
+use super::store::add_by;
 use cells::value_at;
 use masks::cell_value;
 use point::addresses;
@@ -49,7 +49,7 @@ pub fn lines_by(cells: &[u8], table: &[u16; 900]) -> [u16; 144]
     while i < 225 {
         let value = value_at(cells, i as usize);
         if is_colour(value) {
-            add_on(&mut lines, table, i, Player::or_white(value));
+            add_by(&mut lines, table, i, Player::or_white(value));
         }
         i += 1;
     }

@@ -60,7 +60,7 @@ fn write_line(lines: &mut [u16; 144], key: u8, cell: u8, value: u8)
 
 // A stone at a point where none stands: its colour's bit on each stored line through it, which is half of what a put writes. The addresses
 // are those of the lent table, which whoever adds many stones lays out once. Nothing changes at a code over 224, here and below.
-pub fn add_on(lines: &mut [u16; 144], table: &[u16; 900], code: u8, player: Player)
+pub fn add_by(lines: &mut [u16; 144], table: &[u16; 900], code: u8, player: Player)
     ensures { λ _. ⌜ now (lines .exit) ≡ markBy (now (lines .entry)) (now (table .entry)) code player true ⌝ }
 {
     mark_along(lines, table, 0, code, player, true);
@@ -70,7 +70,7 @@ pub fn add_on(lines: &mut [u16; 144], table: &[u16; 900], code: u8, player: Play
 }
 
 // The player's stone taken off again.
-pub fn lift_on(lines: &mut [u16; 144], table: &[u16; 900], code: u8, player: Player)
+pub fn lift_by(lines: &mut [u16; 144], table: &[u16; 900], code: u8, player: Player)
     ensures { λ _. ⌜ now (lines .exit) ≡ markBy (now (lines .entry)) (now (table .entry)) code player false ⌝ }
 {
     mark_along(lines, table, 0, code, player, false);
@@ -79,9 +79,9 @@ pub fn lift_on(lines: &mut [u16; 144], table: &[u16; 900], code: u8, player: Pla
     mark_along(lines, table, 3, code, player, false);
 }
 
-// The player's stone put on its four lines, or lifted from them: for crates that search on boards of their own. `add_on` and `lift_on` are for
+// The player's stone put on its four lines, or lifted from them: for crates that search on boards of their own. `add_by` and `lift_by` are for
 // the referee's cycle, and are compiled into it as long as no other search calls them.
-pub fn mark_on(lines: &mut [u16; 144], table: &[u16; 900], code: u8, player: Player, on: bool)
+pub fn mark_by(lines: &mut [u16; 144], table: &[u16; 900], code: u8, player: Player, on: bool)
     ensures { λ _. ⌜ now (lines .exit) ≡ markBy (now (lines .entry)) (now (table .entry)) code player on ⌝ }
 {
     mark_along(lines, table, 0, code, player, on);

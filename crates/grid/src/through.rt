@@ -20,7 +20,7 @@ struct LineStones {
 
 // The player's stones on the four lines through a point, by the lent table of addresses: vertical, horizontal, ascending, descending; 0 where
 // no line is stored, as for every code over 224.
-pub fn masks_on(lines: &[u16; 144], table: &[u16; 900], code: u8, player: Player) -> [u16; 4]
+pub fn masks_by(lines: &[u16; 144], table: &[u16; 900], code: u8, player: Player) -> [u16; 4]
     ensures { λ r. ⌜ r ≡ masksBy (now (lines .entry)) (now (table .entry)) code player ⌝ }
 {
     [
@@ -32,7 +32,7 @@ pub fn masks_on(lines: &[u16; 144], table: &[u16; 900], code: u8, player: Player
 }
 
 // Both colours' stones on those lines, the player's and the opponent's, with one look at each address.
-pub fn stones_on(lines: &[u16; 144], table: &[u16; 900], code: u8, player: Player) -> Stones
+pub fn stones_by(lines: &[u16; 144], table: &[u16; 900], code: u8, player: Player) -> Stones
     ensures { λ r. ⌜ (r .own ≡ masksBy (now (lines .entry)) (now (table .entry)) code player)
         × (r .other ≡ masksBy (now (lines .entry)) (now (table .entry)) code (opponentOf player)) ⌝ }
 {

@@ -3,7 +3,7 @@ use super::eyes::eyes_by;
 use super::look::is_forbidden;
 use super::look::rows_for;
 use grid::cell_on;
-use grid::mark_on;
+use grid::mark_by;
 use near::some_row;
 use rules::Player;
 ghost use mathlib.Core.Path.{_≡_};
@@ -52,9 +52,9 @@ pub(crate) fn attack_at(
     if eyes.several {
         return Attack::Ends;
     }
-    mark_on(lines, table, code, side, true);
+    mark_by(lines, table, code, side, true);
     let answer = answer_at(lines, table, eyes.first, side.opponent());
-    mark_on(lines, table, code, side, false);
+    mark_by(lines, table, code, side, false);
     answer
 }
 

@@ -2,7 +2,7 @@
 // from there.
 use super::attack::Attack;
 use super::attack::attack_at;
-use grid::mark_on;
+use grid::mark_by;
 use rules::Player;
 ghost use mathlib.Core.Path.{_≡_};
 ghost use mathlib.Core.Bool.{true};
@@ -94,8 +94,8 @@ fn reply_on(
             ends: false,
         };
     }
-    mark_on(lines, table, code, side, true);
-    mark_on(lines, table, eye, side.opponent(), true);
+    mark_by(lines, table, code, side, true);
+    mark_by(lines, table, eye, side.opponent(), true);
     Next {
         goes: true,
         ends: false,

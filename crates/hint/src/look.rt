@@ -1,6 +1,6 @@
 // What an attack asks of a point of the stored lines, which are sound.
 use grid::cells_on;
-use grid::masks_on;
+use grid::masks_by;
 use near::Rows;
 use near::more_than_one;
 use near::rows_near;
@@ -25,8 +25,8 @@ pub(crate) fn rows_for(lines: &[u16; 144], table: &[u16; 900], code: u8, player:
     ensures { λ r. ⌜ RowsAre (λ kind. rowsThrough player kind (cellsOf (now (lines .entry))) code) r ⌝ }
 {
     rows_near(
-        masks_on(lines, table, code, player),
-        masks_on(lines, table, code, player.opponent()),
+        masks_by(lines, table, code, player),
+        masks_by(lines, table, code, player.opponent()),
         code,
         player.is_black(),
     )

@@ -4,7 +4,7 @@ use super::attack::Attack;
 use super::attack::attack_at;
 use super::tries::next_try;
 use super::tries::tries_after;
-use grid::mark_on;
+use grid::mark_by;
 use rules::Player;
 ghost use mathlib.Core.Path.{_≡_};
 ghost use Prim.Native.Nat.{_+_, _-_, _*_, _≤_, _<_};
@@ -94,12 +94,12 @@ fn forced_on(
     if left == 1 {
         return 0;
     }
-    mark_on(lines, table, code, side, true);
-    mark_on(lines, table, eye, side.opponent(), true);
+    mark_by(lines, table, code, side, true);
+    mark_by(lines, table, eye, side.opponent(), true);
     let next = tries_after(*tries, lines, table, code, side);
     let n = plan_on(lines, table, side, left - 1, &next, out, at + 2);
-    mark_on(lines, table, eye, side.opponent(), false);
-    mark_on(lines, table, code, side, false);
+    mark_by(lines, table, eye, side.opponent(), false);
+    mark_by(lines, table, code, side, false);
     if n == 0 {
         return 0;
     }

@@ -8,9 +8,9 @@ use super::known::looked_at;
 use super::known::next_unless;
 use super::known::settled;
 use super::rows::rows_on;
-use grid::add_on;
+use grid::add_by;
 use grid::cell_on;
-use grid::lift_on;
+use grid::lift_by;
 use near::Rows;
 use near::more_than_one;
 use near::other_starts;
@@ -84,9 +84,9 @@ fn trial(lines: &mut [u16; 144], table: &[u16; 900], code: u8, twos: [u16; 4]) -
     ensures { λ r. ⌜ (r ≡ realDouble strictOf (withBlack (cellsOf (now (lines .entry))) code) code)
         × (now (lines .exit) ≡ now (lines .entry)) ⌝ }
 {
-    add_on(lines, table, code, Player::Black);
+    add_by(lines, table, code, Player::Black);
     let real = two_real(lines, table, code, twos);
-    lift_on(lines, table, code, Player::Black);
+    lift_by(lines, table, code, Player::Black);
     real
 }
 

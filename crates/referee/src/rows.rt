@@ -3,7 +3,7 @@ use super::cycle::plain;
 use super::cycle::two_real;
 use grid::put_on;
 use grid::row_starts_by;
-use grid::stones_on;
+use grid::stones_by;
 use near::Rows;
 use near::black_rows_near;
 use point::addresses;
@@ -23,7 +23,7 @@ pub(crate) fn rows_on(lines: &[u16; 144], table: &[u16; 900], code: u8) -> Rows
     requires { ⌜ Sound (now lines) × (code < 225) × (now table ≡ addresses) ⌝ }
     ensures { λ r. ⌜ RowsAre (blackRows (cellsOf (now (lines .entry))) code) r ⌝ }
 {
-    let stones = stones_on(lines, table, code, Player::Black);
+    let stones = stones_by(lines, table, code, Player::Black);
     let blacks = stones.own;
     let whites = stones.other;
     black_rows_near(blacks, whites, code)

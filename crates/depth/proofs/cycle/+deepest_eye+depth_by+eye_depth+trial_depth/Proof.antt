@@ -38,7 +38,7 @@ use Rattle.depth.proofs.look.asks_nested.Reads as asks-nested-reads
 use Rattle.depth.proofs.look.eye_at.Reads as eye-at-reads
 use Rattle.depth.proofs.look.larger.Reads as larger-reads
 use Rattle.depth.proofs.look.rows_at.Reads as rows-at-reads
-use Rattle.grid.proofs.mark_on.Reads as mark-on-reads
+use Rattle.grid.proofs.mark_by.Reads as mark-by-reads
 use Rattle.near.proofs.next_start.Reads as next-start-reads
 use Rattle.near.proofs.some_row.Reads as some-row-reads
 use Rattle.depth.proofs.cycle.+deepest_eye+depth_by+eye_depth+trial_depth.{statement}
@@ -131,8 +131,8 @@ eye-depth-calls t = (
 -- what `trial-depth` is told of those that it calls
 abbrev trial-depth-calls : ℕ → trial-depth-lts.Claims
 trial-depth-calls t = (
-  mark-on-reads.Asked,
-  mark-on-reads.Learnt,
+  mark-by-reads.Asked,
+  mark-by-reads.Learnt,
   deepest-eye-below t,
   deepest-eye.Post,
 )

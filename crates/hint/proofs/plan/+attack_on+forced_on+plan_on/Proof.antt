@@ -27,7 +27,7 @@ use Rattle.hint.proofs.plan.+attack_on+forced_on+plan_on.Lts-forced_on 
 use Rattle.hint.proofs.plan.plan_on.Reads as plan-on
 use Rattle.hint.proofs.plan.plan_on.Kinds as plan-on-kinds
 use Rattle.hint.proofs.plan.+attack_on+forced_on+plan_on.Lts-plan_on as plan-on-lts
-use Rattle.grid.proofs.mark_on.Reads as mark-on-reads
+use Rattle.grid.proofs.mark_by.Reads as mark-by-reads
 use Rattle.hint.proofs.attack.attack_at.Reads as attack-at-reads
 use Rattle.hint.proofs.tries.next_try.Reads as next-try-reads
 use Rattle.hint.proofs.tries.tries_after.Reads as tries-after-reads
@@ -71,8 +71,8 @@ attack-on-calls t = (attack-at-reads.Asked, attack-at-reads.Learnt, forced-on-be
 -- what `forced-on` is told of those that it calls
 abbrev forced-on-calls : ℕ → forced-on-lts.Claims
 forced-on-calls t = (
-  mark-on-reads.Asked,
-  mark-on-reads.Learnt,
+  mark-by-reads.Asked,
+  mark-by-reads.Learnt,
   opponent-reads.Asked,
   opponent-reads.Learnt,
   tries-after-reads.Asked,

@@ -38,8 +38,8 @@ use Rattle.referee.proofs.cycle.+is_real+open_asked+plain+strict_by+tri
 use Rattle.referee.proofs.cycle.two_real.Reads as two-real
 use Rattle.referee.proofs.cycle.two_real.Kinds as two-real-kinds
 use Rattle.referee.proofs.cycle.+is_real+open_asked+plain+strict_by+trial+two_real.Lts-two_real as two-real-lts
-use Rattle.grid.proofs.add_on.Reads as add-on-reads
-use Rattle.grid.proofs.lift_on.Reads as lift-on-reads
+use Rattle.grid.proofs.add_by.Reads as add-by-reads
+use Rattle.grid.proofs.lift_by.Reads as lift-by-reads
 use Rattle.near.proofs.more_than_one.Reads as more-than-one-reads
 use Rattle.near.proofs.other_starts.Reads as other-starts-reads
 use Rattle.near.proofs.some_row.Reads as some-row-reads
@@ -175,7 +175,7 @@ strict-by-calls t = (some-row-reads.Asked, some-row-reads.Learnt, plain-below t,
 
 -- what `trial` is told of those that it calls
 abbrev trial-calls : ℕ → trial-lts.Claims
-trial-calls t = (add-on-reads.Asked, add-on-reads.Learnt, two-real-below t, two-real.Post, lift-on-reads.Asked, lift-on-reads.Learnt)
+trial-calls t = (add-by-reads.Asked, add-by-reads.Learnt, two-real-below t, two-real.Post, lift-by-reads.Asked, lift-by-reads.Learnt)
 
 -- what `two-real` is told of those that it calls
 abbrev two-real-calls : ℕ → two-real-lts.Claims

@@ -12,7 +12,7 @@ use Rattle.referee.proofs.rows.rows_on.Statement.{statement}
 use Rattle.referee.proofs.rows.rows_on.Tie as tie
 use Rattle.referee.proofs.rows.rows_on.Reads as reads
 use Rattle.referee.proofs.rows.rows_on.Lts as lts
-use Rattle.grid.proofs.stones_on.Reads as stones-on-reads
+use Rattle.grid.proofs.stones_by.Reads as stones-by-reads
 use Rattle.near.proofs.black_rows_near.Reads as black-rows-near-reads
 
 stones-on-requires : tie.Need-stones-on-requires

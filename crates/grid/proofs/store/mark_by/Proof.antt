@@ -1,8 +1,8 @@
--- `grid::store::lift_on` meets its contract: four bits cleared, one after the other. Assumes nothing.
+-- `grid::store::mark_by` meets its contract: four bits set or cleared, one after the other. Assumes nothing.
 use Rattle.grid.specs.Lines.{markBy}
 use borrow.Author.Needs.{needs}
-use Rattle.grid.proofs.store.lift_on.Statement.{statement}
-use Rattle.grid.proofs.store.lift_on.Tie as tie
+use Rattle.grid.proofs.store.mark_by.Statement.{statement}
+use Rattle.grid.proofs.store.mark_by.Tie as tie
 
 mark-along-requires : tie.Need-mark-along-requires
 mark-along-requires c κs = search needs
@@ -25,8 +25,8 @@ returns c = rw (
   c .before .before .before .before .before .before .mark-along .ensures,
 )
 
-pub lift-on-spec : {M : Type 1} → statement M
-lift-on-spec =
+pub mark-on-spec : {M : Type 1} → statement M
+mark-on-spec =
     tie.close
     (tie.spec
     mark-along-requires

@@ -1,8 +1,8 @@
--- `grid::store::mark_on` meets its contract: four bits set or cleared, one after the other. Assumes nothing.
+-- `grid::store::lift_by` meets its contract: four bits cleared, one after the other. Assumes nothing.
 use Rattle.grid.specs.Lines.{markBy}
 use borrow.Author.Needs.{needs}
-use Rattle.grid.proofs.store.mark_on.Statement.{statement}
-use Rattle.grid.proofs.store.mark_on.Tie as tie
+use Rattle.grid.proofs.store.lift_by.Statement.{statement}
+use Rattle.grid.proofs.store.lift_by.Tie as tie
 
 mark-along-requires : tie.Need-mark-along-requires
 mark-along-requires c κs = search needs
@@ -25,8 +25,8 @@ returns c = rw (
   c .before .before .before .before .before .before .mark-along .ensures,
 )
 
-pub mark-on-spec : {M : Type 1} → statement M
-mark-on-spec =
+pub lift-on-spec : {M : Type 1} → statement M
+lift-on-spec =
     tie.close
     (tie.spec
     mark-along-requires

@@ -1,9 +1,9 @@
--- `grid::through::masks_on` meets its contract: one mask for each direction. Assumes nothing.
+-- `grid::through::masks_by` meets its contract: one mask for each direction. Assumes nothing.
 use Rattle.rules.specs.Tools.{tab}
 use Rattle.grid.specs.Lines.{masksBy}
 use borrow.Author.Needs.{needs}
-use Rattle.grid.proofs.through.masks_on.Statement.{statement}
-use Rattle.grid.proofs.through.masks_on.Tie as tie
+use Rattle.grid.proofs.through.masks_by.Statement.{statement}
+use Rattle.grid.proofs.through.masks_by.Tie as tie
 
 mask-along-requires : tie.Need-mask-along-requires
 mask-along-requires c κs = search needs

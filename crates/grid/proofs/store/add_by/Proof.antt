@@ -1,8 +1,8 @@
--- `grid::store::add_on` meets its contract: four bits set, one after the other. Assumes nothing.
+-- `grid::store::add_by` meets its contract: four bits set, one after the other. Assumes nothing.
 use Rattle.grid.specs.Lines.{markBy}
 use borrow.Author.Needs.{needs}
-use Rattle.grid.proofs.store.add_on.Statement.{statement}
-use Rattle.grid.proofs.store.add_on.Tie as tie
+use Rattle.grid.proofs.store.add_by.Statement.{statement}
+use Rattle.grid.proofs.store.add_by.Tie as tie
 
 mark-along-requires : tie.Need-mark-along-requires
 mark-along-requires c κs = search needs

@@ -1,11 +1,11 @@
--- `grid::through::stones_on` meets its contract: one mask for each direction and colour. Assumes nothing.
+-- `grid::through::stones_by` meets its contract: one mask for each direction and colour. Assumes nothing.
 use Rattle.rules.specs.Tools.{tab}
 use Rattle.grid.specs.Lines.{masksBy}
 use borrow.Author.Needs.{needs}
-use Rattle.grid.proofs.through.stones_on.Statement.{statement}
-use Rattle.grid.proofs.through.stones_on.Tie as tie
-use Rattle.grid.proofs.through.stones_on.Reads as reads
-use Rattle.grid.proofs.through.stones_on.Lts as lts
+use Rattle.grid.proofs.through.stones_by.Statement.{statement}
+use Rattle.grid.proofs.through.stones_by.Tie as tie
+use Rattle.grid.proofs.through.stones_by.Reads as reads
+use Rattle.grid.proofs.through.stones_by.Lts as lts
 use Rattle.grid.proofs.through.stones_along.Reads as stones-along-reads
 
 stones-along-requires : tie.Need-stones-along-requires
