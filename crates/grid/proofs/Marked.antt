@@ -104,9 +104,9 @@ module _ (p : ℕ) (r : Player) where
     step : (l m : List ℕ) (d : ℕ) → d < 4 → Clear l → l ≡ m → markIn l d p r (eqb v (colourNo r)) ≡ writeIn m d p v
     step l m d hd c e = mark-along l d hd c ∙ ap (λ (x : List ℕ). writeIn x d p v) e
 
-    mark-on : (l : List ℕ) → Clear l → markOn l p r (eqb v (colourNo r)) ≡ writeOn l p v
+    mark-by : (l : List ℕ) → Clear l → markOn l p r (eqb v (colourNo r)) ≡ writeOn l p v
     unfolding markOn writeOn
-    mark-on l c =
+    mark-by l c =
         let on = eqb v (colourNo r) in
         let c₁ = clear-in l 0 on (omega arith) c in
         let c₂ = clear-in (markIn l 0 p r on) 1 on (omega arith) c₁ in
@@ -118,7 +118,7 @@ module _ (p : ℕ) (r : Player) where
 -- at a cell without a stone of the other colour
 mark-linesOf : (cells : List ℕ) (p : ℕ) (r : Player) (v : ℕ) → p < 225 → eqb (getD cells p 0) (colourNo (opponentOf r)) ≡ false
     → eqb v (colourNo (opponentOf r)) ≡ false → markOn (linesOf cells) p r (eqb v (colourNo r)) ≡ writeOn (linesOf cells) p v
-mark-linesOf cells p r v hp e off = mark-on p r v off (linesOf cells) (clear-linesOf p r cells hp e)
+mark-linesOf cells p r v hp e off = mark-by p r v off (linesOf cells) (clear-linesOf p r cells hp e)
 
 mark-sound : (l : List ℕ) (p : ℕ) (r : Player) (v : ℕ) → Sound l → p < 225 → eqb (getD (cellsOf l) p 0) (colourNo (opponentOf r)) ≡ false
     → eqb v (colourNo (opponentOf r)) ≡ false → markOn l p r (eqb v (colourNo r)) ≡ writeOn l p v

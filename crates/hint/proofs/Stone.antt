@@ -103,9 +103,9 @@ module _ (cells : List ℕ) (p : ℕ) (long : length cells ≡ 225) (hp : p < 22
 
   module _ (d i : ℕ) (hd : d < 4) (hi : i < lineCount d) where
     -- on the line through it
-    stones-on : (r s : Player) → lineNo d p ≡ i → (j : ℕ)
+    stones-by : (r s : Player) → lineNo d p ≡ i → (j : ℕ)
         → stoneAt r (put s cells p) d i j ≡ cond (eqb j (cellNo d p)) (eqb (colourNo s) (colourNo r)) (stoneAt r cells d i j)
-    stones-on r s on j = sym (stone-on r cells d i p (colourNo s) hd hi long hp on j)
+    stones-by r s on j = sym (stone-on r cells d i p (colourNo s) hd hi long hp on j)
 
     there-none : (r : Player) → lineNo d p ≡ i → (j : ℕ) → j ≡ cellNo d p → stoneAt r cells d i j ≡ false
     there-none r on j e = ap (stoneAt r cells d i) e ∙ ap (λ (x : ℕ). stoneAt r cells d x (cellNo d p)) (sym on) ∙ cell-none r d hd
@@ -116,8 +116,8 @@ module _ (cells : List ℕ) (p : ℕ) (long : length cells ≡ 225) (hp : p < 22
       where
         go : Dec (lineNo d p ≡ i) → Dec (j ≡ cellNo d p) → stoneAt r (put s cells p) d i j ≡ stoneAt r cells d i j
         go (no off) q = stone-off r cells d i p (colourNo s) hd hi off j
-        go (yes on) (yes e) = stones-on r s on j ∙ rw (eq-eqb j (cellNo d p) e) (differ ∙ sym (there-none r on j e))
-        go (yes on) (no e) = stones-on r s on j ∙ rw (ne-eqb j (cellNo d p) e)
+        go (yes on) (yes e) = stones-by r s on j ∙ rw (eq-eqb j (cellNo d p) e) (differ ∙ sym (there-none r on j e))
+        go (yes on) (no e) = stones-by r s on j ∙ rw (ne-eqb j (cellNo d p) e)
 
     pub stones-left : (r s : Player) → eqb (colourNo s) (colourNo r) ≡ false → stoneAt r (put s cells p) d i ≡ stoneAt r cells d i
     stones-left r s differ = fun-ext (left r s differ)
@@ -130,7 +130,7 @@ module _ (cells : List ℕ) (p : ℕ) (long : length cells ≡ 225) (hp : p < 22
         go (no off) q = along (sym (stone-off r cells d i p (colourNo s) hd hi off j)) t
         go (yes on) (yes e) = absurd (along (there-none r on j e) t)
         go (yes on) (no e) =
-            let same : stoneAt r (put s cells p) d i j ≡ stoneAt r cells d i j = stones-on r s on j ∙ rw (ne-eqb j (cellNo d p) e) in
+            let same : stoneAt r (put s cells p) d i j ≡ stoneAt r cells d i j = stones-by r s on j ∙ rw (ne-eqb j (cellNo d p) e) in
             along (sym same) t
 
     -- a stone of the other colour makes no row
@@ -157,11 +157,11 @@ module _ (cells : List ℕ) (p : ℕ) (long : length cells ≡ 225) (hp : p < 22
   module _ (r : Player) (d : ℕ) (hd : d < 4) where
     pub own-there : stoneAt r (put r cells p) d (lineNo d p) (cellNo d p) ≡ true
     own-there =
-        stones-on d (lineNo d p) hd (line-here d p hd hp) r r refl (cellNo d p)
+        stones-by d (lineNo d p) hd (line-here d p hd hp) r r refl (cellNo d p)
         ∙ rw (eq-eqb (cellNo d p) (cellNo d p) refl) (own-no r)
 
     pub own-same : (j : ℕ) → (j ≡ cellNo d p → ⊥) → stoneAt r (put r cells p) d (lineNo d p) j ≡ stoneAt r cells d (lineNo d p) j
-    own-same j n = stones-on d (lineNo d p) hd (line-here d p hd hp) r r refl j ∙ rw (ne-eqb j (cellNo d p) n)
+    own-same j n = stones-by d (lineNo d p) hd (line-here d p hd hp) r r refl j ∙ rw (ne-eqb j (cellNo d p) n)
 
     pub others : stoneAt (opponentOf r) (put r cells p) d (lineNo d p) ≡ stoneAt (opponentOf r) cells d (lineNo d p)
     others = stones-left d (lineNo d p) hd (line-here d p hd hp) (opponentOf r) r (other-no r)
@@ -453,7 +453,7 @@ module _ (r : Player) (cells : List ℕ) (e : ℕ) (long : length cells ≡ 225)
         go (yes on) (yes here) = absurd (gap on here)
         go (yes on) (no x) =
             let same : stoneAt (opponentOf r) (put (opponentOf r) cells q) d i (j + k) ≡ stoneAt (opponentOf r) cells d i (j + k) =
-            stones-on cells q long hq none d i (eye .d-lt) hi (opponentOf r) (opponentOf r) on (j + k)
+            stones-by cells q long hq none d i (eye .d-lt) hi (opponentOf r) (opponentOf r) on (j + k)
             ∙ rw (ne-eqb (j + k) (cellNo d q) x) in
             subst (λ (b : Bool). T (not b)) (sym same) was
 

@@ -338,8 +338,8 @@ eye-depth-returns-2 t c =
       c .depth-by .ensures .1,
     )
 
-trial-depth-mark-on-requires : (t : ℕ) → trial-depth-lts.Need-mark-on-requires (trial-depth-calls t) (trial-depth-at t) trial-depth.Post
-trial-depth-mark-on-requires t c κs = search needs
+trial-depth-mark-by-requires : (t : ℕ) → trial-depth-lts.Need-mark-by-requires (trial-depth-calls t) (trial-depth-at t) trial-depth.Post
+trial-depth-mark-by-requires t c κs = search needs
 
 trial-depth-deepest-eye-requires : (t : ℕ) → trial-depth-lts.Need-deepest-eye-requires (trial-depth-calls t) (trial-depth-at t) trial-depth.Post
 trial-depth-deepest-eye-requires t c κs =
@@ -348,15 +348,15 @@ trial-depth-deepest-eye-requires t c κs =
     let p = s .args .code in
     let hp = s .pre .1 .0 in
     let q = s .pre .1 .1 in
-    let w = added L (s .args .table .now) p (s .pre .1 .2) (q .sound) hp (q .free) (c .before .mark-on .ensures) in
+    let w = added L (s .args .table .now) p (s .pre .1 .2) (q .sound) hp (q .free) (c .before .mark-by .ensures) in
     let m = s .pre .0 in
     let f = on-fewer L p (q .sound) hp (q .free) w in (
       omega arith,
       (on-sound L p (q .sound) hp (q .free) w, hp, on-threes L p (q .sound) hp (q .free) w (q .starts), s .pre .1 .2),
     )
 
-trial-depth-mark-on-requires-2 : (t : ℕ) → trial-depth-lts.Need-mark-on-requires-2 (trial-depth-calls t) (trial-depth-at t) trial-depth.Post
-trial-depth-mark-on-requires-2 t c κs = search needs
+trial-depth-mark-by-requires-2 : (t : ℕ) → trial-depth-lts.Need-mark-by-requires-2 (trial-depth-calls t) (trial-depth-at t) trial-depth.Post
+trial-depth-mark-by-requires-2 t c κs = search needs
 
 trial-depth-returns : (t : ℕ) → trial-depth-lts.Need-returns (trial-depth-calls t) (trial-depth-at t) trial-depth.Post
 trial-depth-returns t c =
@@ -368,10 +368,10 @@ trial-depth-returns t c =
     let hp = s .pre .1 .0 in
     let q = s .pre .1 .1 in
     let T = s .args .table .now in
-    let e = a .mark-on .ensures in
+    let e = a .mark-by .ensures in
     let w = added L T p (s .pre .1 .2) (q .sound) hp (q .free) e in (
       r .ensures .0 ∙ ap (λ (C : List ℕ). deepest depthOf C p) (on-cells L p (q .sound) hp (q .free) w),
-      lifted L T p (s .pre .1 .2) (q .sound) hp (q .free) e (r .ensures .1) (c .mark-on2 .ensures),
+      lifted L T p (s .pre .1 .2) (q .sound) hp (q .free) e (r .ensures .1) (c .mark-by2 .ensures),
     )
 
 pub +deepest-eye+depth-by+eye-depth+trial-depth-spec : {M : Type 1} → statement M
@@ -410,7 +410,7 @@ pub +deepest-eye+depth-by+eye-depth+trial-depth-spec : {M : Type 1} → statemen
     λ t. trial-depth-lts.spec (trial-depth-calls t)
     (trial-depth-at t)
     trial-depth.Post
-    (trial-depth-mark-on-requires t)
+    (trial-depth-mark-by-requires t)
     (trial-depth-deepest-eye-requires t)
-    (trial-depth-mark-on-requires-2 t)
+    (trial-depth-mark-by-requires-2 t)
     (trial-depth-returns t)

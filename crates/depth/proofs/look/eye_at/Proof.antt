@@ -6,8 +6,8 @@ use Rattle.depth.proofs.Looked.{eye-seen, eye-byte}
 use Rattle.depth.proofs.look.eye_at.Statement.{statement}
 use Rattle.depth.proofs.look.eye_at.Tie as tie
 
-masks-on-requires : tie.Need-masks-on-requires
-masks-on-requires c κs = search needs
+masks-by-requires : tie.Need-masks-by-requires
+masks-by-requires c κs = search needs
 
 cast-first-gap : tie.Need-cast-first-gap
 cast-first-gap c = search needs
@@ -34,7 +34,7 @@ cast-result c =
     let m = g .before in
     let s = m .before in
     let h = eye-byte (s .args .lines .now) (s .args .table .now) (s .args .code) (s .args .three / 16) (s .args .three % 16) (s .pre .0) (s .pre .1)
-    (omega (arith, s .pre .2)) (s .pre .3) (s .pre .4) (m .masks-on .ensures) (g .first-gap .ensures) (i .line-no .ensures)
+    (omega (arith, s .pre .2)) (s .pre .3) (s .pre .4) (m .masks-by .ensures) (g .first-gap .ensures) (i .line-no .ensures)
     (c .point-at .ensures) in
     omega arith
 
@@ -45,14 +45,14 @@ returns c =
     let m = g .before in
     let s = m .before in
     eye-seen (s .args .lines .now) (s .args .table .now) (s .args .code) (s .args .three / 16) (s .args .three % 16) (s .pre .0) (s .pre .1)
-    (omega (arith, s .pre .2)) (s .pre .3) (s .pre .4) (m .masks-on .ensures) (g .first-gap .ensures) (i .line-no .ensures)
+    (omega (arith, s .pre .2)) (s .pre .3) (s .pre .4) (m .masks-by .ensures) (g .first-gap .ensures) (i .line-no .ensures)
     (c .point-at .ensures)
 
 pub eye-at-spec : {M : Type 1} → statement M
 eye-at-spec =
     tie.close
     (tie.spec
-    masks-on-requires
+    masks-by-requires
     cast-first-gap
     mul-first-gap
     array-read-first-gap

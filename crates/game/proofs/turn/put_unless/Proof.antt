@@ -10,14 +10,14 @@ use Rattle.game.proofs.turn.put_unless.Tie as tie
 returns : tie.Need-returns
 returns c = search needs
 
-add-on-requires : tie.Need-add-on-requires
-add-on-requires c κs = search needs
+add-by-requires : tie.Need-add-by-requires
+add-by-requires c κs = search needs
 
 returns-2 : tie.Need-returns-2
 returns-2 c =
     let o = c .before .before in
     let a = o .before .args in
-    rw (o .if1 .left) (c .add-on .ensures ∙ mark-by (now (a .lines)) _ (a .code) (a .player) true (o .before .pre))
+    rw (o .if1 .left) (c .add-by .ensures ∙ mark-by (now (a .lines)) _ (a .code) (a .player) true (o .before .pre))
 
 pub put-unless-spec : {M : Type 1} → statement M
-put-unless-spec = tie.close (tie.spec returns add-on-requires returns-2)
+put-unless-spec = tie.close (tie.spec returns add-by-requires returns-2)

@@ -13,8 +13,8 @@ use Rattle.referee.proofs.RowsSeen.{rows-seen, masks-sound}
 use Rattle.game.proofs.turn.rows_for.Statement.{statement}
 use Rattle.game.proofs.turn.rows_for.Tie as tie
 
-stones-on-requires : tie.Need-stones-on-requires
-stones-on-requires c κs = search needs
+stones-by-requires : tie.Need-stones-by-requires
+stones-by-requires c κs = search needs
 
 is-black-requires : tie.Need-is-black-requires
 is-black-requires c κs = search needs
@@ -30,7 +30,7 @@ returns c =
     let l = s .args .lines .now in
     let p = s .args .code in
     let r = s .args .player in
-    let x = t .stones-on in
+    let x = t .stones-by in
     rows-seen r (cellsOf l) (x .result .own) (x .result .other) p (s .pre .1)
     (subst (MasksOf r (cellsOf l) p) (sym (x .ensures .0 ∙ masks-by l _ p r (s .pre .2))) (masks-sound r l p (s .pre .0) (s .pre .1)))
     (subst (MasksOf (opponentOf r) (cellsOf l) p) (sym (x .ensures .1 ∙ masks-by l _ p (opponentOf r) (s .pre .2)))
@@ -39,4 +39,4 @@ returns c =
     (c .rows-near .ensures))
 
 pub rows-for-spec : {M : Type 1} → statement M
-rows-for-spec = tie.close (tie.spec stones-on-requires is-black-requires rows-near-requires returns)
+rows-for-spec = tie.close (tie.spec stones-by-requires is-black-requires rows-near-requires returns)

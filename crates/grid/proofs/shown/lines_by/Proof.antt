@@ -33,8 +33,8 @@ is-colour-requires c κs = search needs
 or-white-requires : tie.Need-or-white-requires Inv-loop μ-loop
 or-white-requires c κs = search needs
 
-add-on-requires : tie.Need-add-on-requires Inv-loop μ-loop
-add-on-requires c κs = search needs
+add-by-requires : tie.Need-add-by-requires Inv-loop μ-loop
+add-by-requires c κs = search needs
 
 add-i : tie.Need-add-i Inv-loop μ-loop
 add-i c = omega arith
@@ -74,7 +74,7 @@ lines-by-spec =
     value-at-requires
     is-colour-requires
     or-white-requires
-    add-on-requires
+    add-by-requires
     add-i
     loop-less
     loop-again

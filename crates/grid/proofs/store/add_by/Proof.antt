@@ -25,8 +25,8 @@ returns c = rw (
   c .before .before .before .before .before .before .mark-along .ensures,
 )
 
-pub add-on-spec : {M : Type 1} → statement M
-add-on-spec =
+pub add-by-spec : {M : Type 1} → statement M
+add-by-spec =
     tie.close
     (tie.spec
     mark-along-requires

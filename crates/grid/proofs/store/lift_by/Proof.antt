@@ -25,8 +25,8 @@ returns c = rw (
   c .before .before .before .before .before .before .mark-along .ensures,
 )
 
-pub lift-on-spec : {M : Type 1} → statement M
-lift-on-spec =
+pub lift-by-spec : {M : Type 1} → statement M
+lift-by-spec =
     tie.close
     (tie.spec
     mark-along-requires

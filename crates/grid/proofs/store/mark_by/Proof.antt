@@ -25,8 +25,8 @@ returns c = rw (
   c .before .before .before .before .before .before .mark-along .ensures,
 )
 
-pub mark-on-spec : {M : Type 1} → statement M
-mark-on-spec =
+pub mark-by-spec : {M : Type 1} → statement M
+mark-by-spec =
     tie.close
     (tie.spec
     mark-along-requires

@@ -26,8 +26,8 @@ returns c = rw (
   c .before .before .before .mask-along .ensures,
 )
 
-pub masks-on-spec : {M : Type 1} → statement M
-masks-on-spec =
+pub masks-by-spec : {M : Type 1} → statement M
+masks-by-spec =
     tie.close
     (tie.spec
     mask-along-requires

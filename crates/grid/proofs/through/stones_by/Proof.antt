@@ -30,8 +30,8 @@ returns c =
       rw (c .stones-along4 .ensures .1, a .stones-along3 .ensures .1, h .stones-along2 .ensures .1, v .stones-along .ensures .1),
     )
 
-pub stones-on-spec : {M : Type 1} → statement M
-stones-on-spec =
+pub stones-by-spec : {M : Type 1} → statement M
+stones-by-spec =
     tie.close
     (tie.spec
     stones-along-requires

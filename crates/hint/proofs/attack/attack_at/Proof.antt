@@ -151,8 +151,8 @@ returns-5 c =
       refl,
     )
 
-mark-on-requires : tie.Need-mark-on-requires
-mark-on-requires c κs =
+mark-by-requires : tie.Need-mark-by-requires
+mark-by-requires c κs =
     search needs
 
 opponent-requires : tie.Need-opponent-requires
@@ -161,8 +161,8 @@ opponent-requires c κs =
 
 answer-at-requires : tie.Need-answer-at-requires
 answer-at-requires c κs =
-    let at-mark-on = c .before .before in
-    let at-if5 = at-mark-on .before .before in
+    let at-mark-by = c .before .before in
+    let at-if5 = at-mark-by .before .before in
     let at-eyes-by = at-if5 .before in
     let at-if4 = at-eyes-by .before .before in
     let at-is-forbidden = at-if4 .before in
@@ -181,23 +181,23 @@ answer-at-requires c κs =
     let allowed = sym (at-is-forbidden .is-forbidden .ensures) ∙ at-if4 .if4 .left in
     let eye = at-eyes-by .eyes-by .ensures .one (at-if5 .if5 .left) in
     let lt = eye-lt r C p (length-cellsOf l) (s .pre .1) (zero-empty z) (s .pre .3) no-five allowed _ eye in (
-      put-sound r l _ p (s .pre .0) (s .pre .1) z (s .pre .2) (at-mark-on .mark-on .ensures),
+      put-sound r l _ p (s .pre .0) (s .pre .1) z (s .pre .2) (at-mark-by .mark-by .ensures),
       lt,
-      empty-is _ _ lt (rw (put-cells r l _ p (s .pre .0) (s .pre .1) z (s .pre .2) (at-mark-on .mark-on .ensures))
+      empty-is _ _ lt (rw (put-cells r l _ p (s .pre .0) (s .pre .1) z (s .pre .2) (at-mark-by .mark-by .ensures))
           (eye-free r C p (length-cellsOf l) (s .pre .1) (zero-empty z) (s .pre .3) no-five allowed _ eye)),
       s .pre .2,
     )
 
-mark-on-requires-2 : tie.Need-mark-on-requires-2
-mark-on-requires-2 c κs =
+mark-by-requires-2 : tie.Need-mark-by-requires-2
+mark-by-requires-2 c κs =
     search needs
 
 returns-6 : tie.Need-returns-6
 returns-6 c =
     let at-answer-at = c .before .before in
     let at-opponent = at-answer-at .before in
-    let at-mark-on = at-opponent .before .before in
-    let at-if5 = at-mark-on .before .before in
+    let at-mark-by = at-opponent .before .before in
+    let at-if5 = at-mark-by .before .before in
     let at-eyes-by = at-if5 .before in
     let at-if4 = at-eyes-by .before .before in
     let at-is-forbidden = at-if4 .before in
@@ -217,11 +217,11 @@ returns-6 c =
     let eye = at-eyes-by .eyes-by .ensures .one (at-if5 .if5 .left) in (
       answered r C p (length-cellsOf l) (s .pre .1) (zero-empty z) (s .pre .3) no-five allowed _ eye _
           (rw (
-            sym (put-cells r l _ p (s .pre .0) (s .pre .1) z (s .pre .2) (at-mark-on .mark-on .ensures)),
+            sym (put-cells r l _ p (s .pre .0) (s .pre .1) z (s .pre .2) (at-mark-by .mark-by .ensures)),
             sym
                 (at-opponent .opponent .ensures),
           ) (at-answer-at .answer-at .ensures)),
-      put-back r l _ p (s .pre .0) (s .pre .1) z (s .pre .2) (at-mark-on .mark-on .ensures) refl (c .mark-on2 .ensures),
+      put-back r l _ p (s .pre .0) (s .pre .1) z (s .pre .2) (at-mark-by .mark-by .ensures) refl (c .mark-by2 .ensures),
     )
 
 pub attack-at-spec : {M : Type 1} → statement M
@@ -239,8 +239,8 @@ attack-at-spec =
     returns-4
     eyes-by-requires
     returns-5
-    mark-on-requires
+    mark-by-requires
     opponent-requires
     answer-at-requires
-    mark-on-requires-2
+    mark-by-requires-2
     returns-6)

@@ -32,31 +32,31 @@ returns-2 c =
       λ q. absurd (no-true q),
     )
 
-mark-on-requires : tie.Need-mark-on-requires
-mark-on-requires c κs = search needs
+mark-by-requires : tie.Need-mark-by-requires
+mark-by-requires c κs = search needs
 
 opponent-requires : tie.Need-opponent-requires
 opponent-requires c κs = search needs
 
-mark-on-requires-2 : tie.Need-mark-on-requires-2
-mark-on-requires-2 c κs = search needs
+mark-by-requires-2 : tie.Need-mark-by-requires-2
+mark-by-requires-2 c κs = search needs
 
 returns-3 : tie.Need-returns-3
 returns-3 c =
     let at-opponent = c .before in
-    let at-mark-on = at-opponent .before .before in
-    let at-if2 = at-mark-on .before .before in
+    let at-mark-by = at-opponent .before .before in
+    let at-if2 = at-mark-by .before .before in
     let at-if1 = at-if2 .before .before in
     let s = at-if1 .before .before in
     let a = s .args in
     let h = at-if1 .if1 .left in
     let cells = both-cells (a .side) (a .lines .now) _ (a .code) (a .eye) (s .pre .0) (s .pre .2) (s .pre .1)
-    (at-opponent .opponent .ensures) (at-mark-on .mark-on .ensures) (c .mark-on2 .ensures) in (
+    (at-opponent .opponent .ensures) (at-mark-by .mark-by .ensures) (c .mark-by2 .ensures) in (
       next-goes (a .side) _ _ _ _
           (both-sound (a .side) (a .lines .now) _ (a .code) (a .eye) (s .pre .0) (s .pre .2) (s .pre .1) (at-opponent .opponent .ensures)
-          (at-mark-on .mark-on .ensures) (c .mark-on2 .ensures))
+          (at-mark-by .mark-by .ensures) (c .mark-by2 .ensures))
           (both-quiet (a .side) (a .lines .now) _ (a .code) (a .eye) (s .pre .0) (s .pre .2) (s .pre .1) (at-opponent .opponent .ensures)
-          (at-mark-on .mark-on .ensures) (c .mark-on2 .ensures))
+          (at-mark-by .mark-by .ensures) (c .mark-by2 .ensures))
           (rw cells (forced-goes (a .side) (cellsOf (a .lines .now)) (a .code) (a .eye) (s .pre .2) _ _ _
           (drop-next (a .list .now) (a .at) (omega arith)) (at-if2 .if2 .left))),
       λ q. omega arith,
@@ -69,7 +69,7 @@ reply-on-spec =
     returns
     shared-slice-read-if2
     returns-2
-    mark-on-requires
+    mark-by-requires
     opponent-requires
-    mark-on-requires-2
+    mark-by-requires-2
     returns-3)

@@ -13,14 +13,14 @@ use Rattle.referee.proofs.RowsSeen.{rows-seen, masks-sound}
 use Rattle.hint.proofs.look.rows_for.Statement.{statement}
 use Rattle.hint.proofs.look.rows_for.Tie as tie
 
-masks-on-requires : tie.Need-masks-on-requires
-masks-on-requires c κs = search needs
+masks-by-requires : tie.Need-masks-by-requires
+masks-by-requires c κs = search needs
 
 opponent-requires : tie.Need-opponent-requires
 opponent-requires c κs = search needs
 
-masks-on-requires-2 : tie.Need-masks-on-requires-2
-masks-on-requires-2 c κs = search needs
+masks-by-requires-2 : tie.Need-masks-by-requires-2
+masks-by-requires-2 c κs = search needs
 
 is-black-requires : tie.Need-is-black-requires
 is-black-requires c κs = search needs
@@ -38,21 +38,21 @@ returns c =
     let l = s .args .lines .now in
     let p = s .args .code in
     let r = s .args .player in
-    rows-seen r (cellsOf l) (m .masks-on .result) (t .masks-on2 .result) p (s .pre .1)
-    (subst (MasksOf r (cellsOf l) p) (sym (m .masks-on .ensures ∙ masks-by l _ p r (s .pre .2))) (masks-sound r l p (s .pre .0) (s .pre .1)))
+    rows-seen r (cellsOf l) (m .masks-by .result) (t .masks-by2 .result) p (s .pre .1)
+    (subst (MasksOf r (cellsOf l) p) (sym (m .masks-by .ensures ∙ masks-by l _ p r (s .pre .2))) (masks-sound r l p (s .pre .0) (s .pre .1)))
     (subst (MasksOf (opponentOf r) (cellsOf l) p)
-    (sym (t .masks-on2 .ensures ∙ masks-by l _ p _ (s .pre .2) ∙ ap (masksThrough l p) (o .opponent .ensures)))
+    (sym (t .masks-by2 .ensures ∙ masks-by l _ p _ (s .pre .2) ∙ ap (masksThrough l p) (o .opponent .ensures)))
     (masks-sound (opponentOf r) l p (s .pre .0) (s .pre .1)))
-    (subst (λ (x : Bool). RowsAre (seen x (m .masks-on .result) (t .masks-on2 .result) p) (c .rows-near .result)) (b .is-black .ensures)
+    (subst (λ (x : Bool). RowsAre (seen x (m .masks-by .result) (t .masks-by2 .result) p) (c .rows-near .result)) (b .is-black .ensures)
     (c .rows-near .ensures))
 
 pub rows-for-spec : {M : Type 1} → statement M
 rows-for-spec =
     tie.close
     (tie.spec
-    masks-on-requires
+    masks-by-requires
     opponent-requires
-    masks-on-requires-2
+    masks-by-requires-2
     is-black-requires
     rows-near-requires
     returns)

@@ -168,28 +168,28 @@ forced-on-returns t c =
     (line-last (a .side) (a .left) (cellsOf (a .lines .now)) (a .code) (a .eye) (s .pre .1 .2) (c .if1 .taken)) in
     (g .0, g .1, refl)
 
-forced-on-mark-on-requires : (t : ℕ) → forced-on-lts.Need-mark-on-requires (forced-on-calls t) (forced-on-at t) forced-on.Post
-forced-on-mark-on-requires t c κs =
+forced-on-mark-by-requires : (t : ℕ) → forced-on-lts.Need-mark-by-requires (forced-on-calls t) (forced-on-at t) forced-on.Post
+forced-on-mark-by-requires t c κs =
     search needs
 
 forced-on-opponent-requires : (t : ℕ) → forced-on-lts.Need-opponent-requires (forced-on-calls t) (forced-on-at t) forced-on.Post
 forced-on-opponent-requires t c κs =
     search needs
 
-forced-on-mark-on-requires-2 : (t : ℕ) → forced-on-lts.Need-mark-on-requires-2 (forced-on-calls t) (forced-on-at t) forced-on.Post
-forced-on-mark-on-requires-2 t c κs =
+forced-on-mark-by-requires-2 : (t : ℕ) → forced-on-lts.Need-mark-by-requires-2 (forced-on-calls t) (forced-on-at t) forced-on.Post
+forced-on-mark-by-requires-2 t c κs =
     search needs
 
 forced-on-tries-after-requires : (t : ℕ) → forced-on-lts.Need-tries-after-requires (forced-on-calls t) (forced-on-at t) forced-on.Post
 forced-on-tries-after-requires t c κs =
-    let at-mark-on2 = c .before .before in
-    let at-opponent = at-mark-on2 .before in
-    let at-mark-on = at-opponent .before .before in
-    let s = at-mark-on .before .before .before in
+    let at-mark-by2 = c .before .before in
+    let at-opponent = at-mark-by2 .before in
+    let at-mark-by = at-opponent .before .before in
+    let s = at-mark-by .before .before .before in
     let a = s .args in (
       both-sound (a .side) (a .lines .now) _ (a .code) (a .eye) (s .pre .1 .0) (s .pre .1 .2) (s .pre .1 .1)
           (at-opponent .opponent .ensures)
-          (at-mark-on .mark-on .ensures) (at-mark-on2 .mark-on2 .ensures),
+          (at-mark-by .mark-by .ensures) (at-mark-by2 .mark-by2 .ensures),
       is-legal (a .side) (cellsOf (a .lines .now)) (a .code) (a .eye) (s .pre .1 .2) .lt,
       s .pre .1 .1,
     )
@@ -207,10 +207,10 @@ forced-on-add-plan-on t c =
 forced-on-plan-on-requires : (t : ℕ) → forced-on-lts.Need-plan-on-requires (forced-on-calls t) (forced-on-at t) forced-on.Post
 forced-on-plan-on-requires t c κs =
     let at-tries-after = c .before .before .before in
-    let at-mark-on2 = at-tries-after .before .before .before in
-    let at-opponent = at-mark-on2 .before in
-    let at-mark-on = at-opponent .before .before in
-    let s = at-mark-on .before .before .before in
+    let at-mark-by2 = at-tries-after .before .before .before in
+    let at-opponent = at-mark-by2 .before in
+    let at-mark-by = at-opponent .before .before in
+    let s = at-mark-by .before .before .before in
     let a = s .args in
     let m = s .pre .0 in
     let h = s .pre .1 .4 in
@@ -219,17 +219,17 @@ forced-on-plan-on-requires t c κs =
       (
         both-sound (a .side) (a .lines .now) _ (a .code) (a .eye) (s .pre .1 .0) (s .pre .1 .2) (s .pre .1 .1)
             (at-opponent .opponent .ensures)
-            (at-mark-on .mark-on .ensures) (at-mark-on2 .mark-on2 .ensures),
+            (at-mark-by .mark-by .ensures) (at-mark-by2 .mark-by2 .ensures),
         s .pre .1 .1,
         both-quiet (a .side) (a .lines .now) _ (a .code) (a .eye) (s .pre .1 .0) (s .pre .1 .2) (s .pre .1 .1)
             (at-opponent .opponent .ensures)
-            (at-mark-on .mark-on .ensures) (at-mark-on2 .mark-on2 .ensures),
+            (at-mark-by .mark-by .ensures) (at-mark-by2 .mark-by2 .ensures),
         omega arith,
         covers-both (a .side) (cellsOf (a .lines .now)) (a .code) (a .eye) (s .pre .1 .2) (length-cellsOf (a .lines .now)) (a .tries .now) _
             (s .pre .1 .5) (at-tries-after .tries-after .ensures .0)
             (both-cells (a .side) (a .lines .now) _ (a .code) (a .eye) (s .pre .1 .0) (s .pre .1 .2) (s .pre .1 .1)
             (at-opponent .opponent .ensures)
-            (at-mark-on .mark-on .ensures) (at-mark-on2 .mark-on2 .ensures)) (at-tries-after .tries-after .ensures .1),
+            (at-mark-by .mark-by .ensures) (at-mark-by2 .mark-by2 .ensures)) (at-tries-after .tries-after .ensures .1),
       ),
     )
 
@@ -237,37 +237,37 @@ forced-on-opponent-requires-2 : (t : ℕ) → forced-on-lts.Need-opponent-requir
 forced-on-opponent-requires-2 t c κs =
     search needs
 
-forced-on-mark-on-requires-3 : (t : ℕ) → forced-on-lts.Need-mark-on-requires-3 (forced-on-calls t) (forced-on-at t) forced-on.Post
-forced-on-mark-on-requires-3 t c κs =
+forced-on-mark-by-requires-3 : (t : ℕ) → forced-on-lts.Need-mark-by-requires-3 (forced-on-calls t) (forced-on-at t) forced-on.Post
+forced-on-mark-by-requires-3 t c κs =
     search needs
 
-forced-on-mark-on-requires-4 : (t : ℕ) → forced-on-lts.Need-mark-on-requires-4 (forced-on-calls t) (forced-on-at t) forced-on.Post
-forced-on-mark-on-requires-4 t c κs =
+forced-on-mark-by-requires-4 : (t : ℕ) → forced-on-lts.Need-mark-by-requires-4 (forced-on-calls t) (forced-on-at t) forced-on.Post
+forced-on-mark-by-requires-4 t c κs =
     search needs
 
 forced-on-returns-2 : (t : ℕ) → forced-on-lts.Need-returns-2 (forced-on-calls t) (forced-on-at t) forced-on.Post
 forced-on-returns-2 t c =
-    let at-mark-on4 = c .before in
-    let at-mark-on3 = at-mark-on4 .before .before in
-    let at-opponent2 = at-mark-on3 .before in
+    let at-mark-by4 = c .before in
+    let at-mark-by3 = at-mark-by4 .before .before in
+    let at-opponent2 = at-mark-by3 .before in
     let at-plan-on = at-opponent2 .before .before in
-    let at-mark-on2 = at-plan-on .before .before .before .before .before .before .before in
-    let at-opponent = at-mark-on2 .before in
-    let at-mark-on = at-opponent .before .before in
-    let s = at-mark-on .before .before .before in
+    let at-mark-by2 = at-plan-on .before .before .before .before .before .before .before in
+    let at-opponent = at-mark-by2 .before in
+    let at-mark-by = at-opponent .before .before in
+    let s = at-mark-by .before .before .before in
     let a = s .args in
     let next = planFrom (a .side) (a .left - 1) in
     let after = afterBoth (a .side) (cellsOf (a .lines .now)) (a .code) (a .eye) in
     let on = both-cells (a .side) (a .lines .now) _ (a .code) (a .eye) (s .pre .1 .0) (s .pre .1 .2) (s .pre .1 .1)
     (at-opponent .opponent .ensures)
-    (at-mark-on .mark-on .ensures) (at-mark-on2 .mark-on2 .ensures) in
+    (at-mark-by .mark-by .ensures) (at-mark-by2 .mark-by2 .ensures) in
     let r = at-plan-on .plan-on .ensures in
     let r0 = r .0 ∙ ap (λ (D : List ℕ). length (next D)) on in
     let r1 = r .1 ∙ ap (λ (D : List ℕ). sets (a .out .now) (a .at + 2) (next D)) on in
     let back = both-back (a .side) (a .lines .now) _ (a .code) (a .eye) (s .pre .1 .0) (s .pre .1 .2) (s .pre .1 .1)
     (at-opponent .opponent .ensures)
-    (at-mark-on .mark-on .ensures) (at-mark-on2 .mark-on2 .ensures) (at-opponent2 .opponent2 .ensures) (r .2) (at-mark-on3 .mark-on3 .ensures)
-    (at-mark-on4 .mark-on4 .ensures) in
+    (at-mark-by .mark-by .ensures) (at-mark-by2 .mark-by2 .ensures) (at-opponent2 .opponent2 .ensures) (r .2) (at-mark-by3 .mark-by3 .ensures)
+    (at-mark-by4 .mark-by4 .ensures) in
     let z = sym (c .if2 .taken) ∙ r0 in
     let g = gives (a .out .now) (a .at) (line-forced (a .side) next (cellsOf (a .lines .now)) (a .code) (a .eye) (s .pre .1 .2)
     ∙ nothing-behind (a .code) (a .eye) (next after) z) in
@@ -288,16 +288,16 @@ forced-on-add-out t c =
 forced-on-element-write-out-2 : (t : ℕ) → forced-on-lts.Need-element-write-out-2 (forced-on-calls t) (forced-on-at t) forced-on.Post
 forced-on-element-write-out-2 t c =
     let at-plan-on = c .before .before .before .before .before .before in
-    let at-mark-on2 = at-plan-on .before .before .before .before .before .before .before in
-    let at-opponent = at-mark-on2 .before in
-    let at-mark-on = at-opponent .before .before in
-    let s = at-mark-on .before .before .before in
+    let at-mark-by2 = at-plan-on .before .before .before .before .before .before .before in
+    let at-opponent = at-mark-by2 .before in
+    let at-mark-by = at-opponent .before .before in
+    let s = at-mark-by .before .before .before in
     let a = s .args in
     let next = planFrom (a .side) (a .left - 1) in
     let after = afterBoth (a .side) (cellsOf (a .lines .now)) (a .code) (a .eye) in
     let on = both-cells (a .side) (a .lines .now) _ (a .code) (a .eye) (s .pre .1 .0) (s .pre .1 .2) (s .pre .1 .1)
     (at-opponent .opponent .ensures)
-    (at-mark-on .mark-on .ensures) (at-mark-on2 .mark-on2 .ensures) in
+    (at-mark-by .mark-by .ensures) (at-mark-by2 .mark-by2 .ensures) in
     let r0 = at-plan-on .plan-on .ensures .0 ∙ ap (λ (D : List ℕ). length (next D)) on in
     let h = plan-short (a .side) (a .left - 1) after in
     omega (arith, s .pre .1 .3, s .pre .1 .4, r0, h, c .if2 .left)
@@ -305,43 +305,43 @@ forced-on-element-write-out-2 t c =
 forced-on-add-result : (t : ℕ) → forced-on-lts.Need-add-result (forced-on-calls t) (forced-on-at t) forced-on.Post
 forced-on-add-result t c =
     let at-plan-on = c .before .before .before .before .before .before in
-    let at-mark-on2 = at-plan-on .before .before .before .before .before .before .before in
-    let at-opponent = at-mark-on2 .before in
-    let at-mark-on = at-opponent .before .before in
-    let s = at-mark-on .before .before .before in
+    let at-mark-by2 = at-plan-on .before .before .before .before .before .before .before in
+    let at-opponent = at-mark-by2 .before in
+    let at-mark-by = at-opponent .before .before in
+    let s = at-mark-by .before .before .before in
     let a = s .args in
     let next = planFrom (a .side) (a .left - 1) in
     let after = afterBoth (a .side) (cellsOf (a .lines .now)) (a .code) (a .eye) in
     let on = both-cells (a .side) (a .lines .now) _ (a .code) (a .eye) (s .pre .1 .0) (s .pre .1 .2) (s .pre .1 .1)
     (at-opponent .opponent .ensures)
-    (at-mark-on .mark-on .ensures) (at-mark-on2 .mark-on2 .ensures) in
+    (at-mark-by .mark-by .ensures) (at-mark-by2 .mark-by2 .ensures) in
     let r0 = at-plan-on .plan-on .ensures .0 ∙ ap (λ (D : List ℕ). length (next D)) on in
     let h = plan-short (a .side) (a .left - 1) after in
     omega (arith, s .pre .1 .3, s .pre .1 .4, r0, h)
 
 forced-on-returns-3 : (t : ℕ) → forced-on-lts.Need-returns-3 (forced-on-calls t) (forced-on-at t) forced-on.Post
 forced-on-returns-3 t c =
-    let at-mark-on4 = c .before in
-    let at-mark-on3 = at-mark-on4 .before .before in
-    let at-opponent2 = at-mark-on3 .before in
+    let at-mark-by4 = c .before in
+    let at-mark-by3 = at-mark-by4 .before .before in
+    let at-opponent2 = at-mark-by3 .before in
     let at-plan-on = at-opponent2 .before .before in
-    let at-mark-on2 = at-plan-on .before .before .before .before .before .before .before in
-    let at-opponent = at-mark-on2 .before in
-    let at-mark-on = at-opponent .before .before in
-    let s = at-mark-on .before .before .before in
+    let at-mark-by2 = at-plan-on .before .before .before .before .before .before .before in
+    let at-opponent = at-mark-by2 .before in
+    let at-mark-by = at-opponent .before .before in
+    let s = at-mark-by .before .before .before in
     let a = s .args in
     let next = planFrom (a .side) (a .left - 1) in
     let after = afterBoth (a .side) (cellsOf (a .lines .now)) (a .code) (a .eye) in
     let on = both-cells (a .side) (a .lines .now) _ (a .code) (a .eye) (s .pre .1 .0) (s .pre .1 .2) (s .pre .1 .1)
     (at-opponent .opponent .ensures)
-    (at-mark-on .mark-on .ensures) (at-mark-on2 .mark-on2 .ensures) in
+    (at-mark-by .mark-by .ensures) (at-mark-by2 .mark-by2 .ensures) in
     let r = at-plan-on .plan-on .ensures in
     let r0 = r .0 ∙ ap (λ (D : List ℕ). length (next D)) on in
     let r1 = r .1 ∙ ap (λ (D : List ℕ). sets (a .out .now) (a .at + 2) (next D)) on in
     let back = both-back (a .side) (a .lines .now) _ (a .code) (a .eye) (s .pre .1 .0) (s .pre .1 .2) (s .pre .1 .1)
     (at-opponent .opponent .ensures)
-    (at-mark-on .mark-on .ensures) (at-mark-on2 .mark-on2 .ensures) (at-opponent2 .opponent2 .ensures) (r .2) (at-mark-on3 .mark-on3 .ensures)
-    (at-mark-on4 .mark-on4 .ensures) in
+    (at-mark-by .mark-by .ensures) (at-mark-by2 .mark-by2 .ensures) (at-opponent2 .opponent2 .ensures) (r .2) (at-mark-by3 .mark-by3 .ensures)
+    (at-mark-by4 .mark-by4 .ensures) in
     let some : length (next after) ≡ 0 → ⊥ = λ z. c .if2 .left (r0 ∙ z) in
     let g = gives (a .out .now) (a .at) (line-forced (a .side) next (cellsOf (a .lines .now)) (a .code) (a .eye) (s .pre .1 .2)) in (
       ap (λ (n : ℕ). n + 2) r0 ∙ two-longer (a .out .now) (a .at) (a .code) (a .eye) (next after) some ∙ g .0,
@@ -561,16 +561,16 @@ pub +attack-on+forced-on+plan-on-spec : {M : Type 1} → statement M
     (forced-on-at t)
     forced-on.Post
     (forced-on-returns t)
-    (forced-on-mark-on-requires t)
+    (forced-on-mark-by-requires t)
     (forced-on-opponent-requires t)
-    (forced-on-mark-on-requires-2 t)
+    (forced-on-mark-by-requires-2 t)
     (forced-on-tries-after-requires t)
     (forced-on-sub-plan-on t)
     (forced-on-add-plan-on t)
     (forced-on-plan-on-requires t)
     (forced-on-opponent-requires-2 t)
-    (forced-on-mark-on-requires-3 t)
-    (forced-on-mark-on-requires-4 t)
+    (forced-on-mark-by-requires-3 t)
+    (forced-on-mark-by-requires-4 t)
     (forced-on-returns-2 t)
     (forced-on-element-write-out t)
     (forced-on-add-out t)

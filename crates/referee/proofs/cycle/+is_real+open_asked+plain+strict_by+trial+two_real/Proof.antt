@@ -457,8 +457,8 @@ strict-by-returns-2 t c =
     let o = c .before .before in
     (c .plain .ensures .0 ∙ rw (sym (o .before .some-row .ensures) ∙ o .if1 .left) refl, c .plain .ensures .1)
 
-trial-add-on-requires : (t : ℕ) → trial-lts.Need-add-on-requires (trial-calls t) (trial-at t) trial.Post
-trial-add-on-requires t c κs = search needs
+trial-add-by-requires : (t : ℕ) → trial-lts.Need-add-by-requires (trial-calls t) (trial-at t) trial.Post
+trial-add-by-requires t c κs = search needs
 
 trial-two-real-requires : (t : ℕ) → trial-lts.Need-two-real-requires (trial-calls t) (trial-at t) trial.Post
 trial-two-real-requires t c κs =
@@ -467,15 +467,15 @@ trial-two-real-requires t c κs =
     let p = s .args .code in
     let hp = s .pre .1 .0 in
     let q = s .pre .1 .1 in
-    let w = added L _ p (s .pre .1 .2) (q .sound) hp (q .free) (c .before .add-on .ensures) in
+    let w = added L _ p (s .pre .1 .2) (q .sound) hp (q .free) (c .before .add-by .ensures) in
     let m = s .pre .0 in
     let f = on-fewer L p (q .sound) hp (q .free) w in (
       omega arith,
       (on-sound L p (q .sound) hp (q .free) w, hp, on-threes L p (q .sound) hp (q .free) w (q .starts), s .pre .1 .2),
     )
 
-trial-lift-on-requires : (t : ℕ) → trial-lts.Need-lift-on-requires (trial-calls t) (trial-at t) trial.Post
-trial-lift-on-requires t c κs = search needs
+trial-lift-by-requires : (t : ℕ) → trial-lts.Need-lift-by-requires (trial-calls t) (trial-at t) trial.Post
+trial-lift-by-requires t c κs = search needs
 
 trial-returns : (t : ℕ) → trial-lts.Need-returns (trial-calls t) (trial-at t) trial.Post
 trial-returns t c =
@@ -486,9 +486,9 @@ trial-returns t c =
     let p = s .args .code in
     let hp = s .pre .1 .0 in
     let q = s .pre .1 .1 in
-    let w = added L _ p (s .pre .1 .2) (q .sound) hp (q .free) (a .add-on .ensures) in (
+    let w = added L _ p (s .pre .1 .2) (q .sound) hp (q .free) (a .add-by .ensures) in (
       r .ensures .0 ∙ ap (λ (C : List ℕ). realDouble strictOf C p) (on-cells L p (q .sound) hp (q .free) w),
-      lifted L _ p (s .pre .1 .2) (q .sound) hp (q .free) (a .add-on .ensures) (r .ensures .1) (c .lift-on .ensures),
+      lifted L _ p (s .pre .1 .2) (q .sound) hp (q .free) (a .add-by .ensures) (r .ensures .1) (c .lift-by .ensures),
     )
 
 two-real-looked-at-requires : (t : ℕ) → two-real-lts.Need-looked-at-requires (two-real-calls t) (two-real-at t) two-real.Post
@@ -563,9 +563,9 @@ pub +is-real+open-asked+plain+strict-by+trial+two-real-spec : {M : Type 1} → s
     (λ t. trial-lts.spec (trial-calls t)
     (trial-at t)
     trial.Post
-    (trial-add-on-requires t)
+    (trial-add-by-requires t)
     (trial-two-real-requires t)
-    (trial-lift-on-requires t)
+    (trial-lift-by-requires t)
     (trial-returns t))
     λ t. two-real-lts.spec
     (two-real-calls t)

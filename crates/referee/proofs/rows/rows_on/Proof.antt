@@ -15,8 +15,8 @@ use Rattle.referee.proofs.rows.rows_on.Lts as lts
 use Rattle.grid.proofs.stones_by.Reads as stones-by-reads
 use Rattle.near.proofs.black_rows_near.Reads as black-rows-near-reads
 
-stones-on-requires : tie.Need-stones-on-requires
-stones-on-requires c κs = search needs
+stones-by-requires : tie.Need-stones-by-requires
+stones-by-requires c κs = search needs
 
 black-rows-near-requires : tie.Need-black-rows-near-requires
 black-rows-near-requires c κs = search needs
@@ -28,11 +28,11 @@ returns c =
     let l = s .args .lines .now in
     let p = s .args .code in
     rows-seen Black (cellsOf l) _ _ p (s .pre .1)
-    (subst (MasksOf Black (cellsOf l) p) (sym (b .stones-on .ensures .0 ∙ masks-by l _ p Black (s .pre .2)))
+    (subst (MasksOf Black (cellsOf l) p) (sym (b .stones-by .ensures .0 ∙ masks-by l _ p Black (s .pre .2)))
     (masks-sound Black l p (s .pre .0) (s .pre .1)))
-    (subst (MasksOf White (cellsOf l) p) (sym (b .stones-on .ensures .1 ∙ masks-by l _ p White (s .pre .2)))
+    (subst (MasksOf White (cellsOf l) p) (sym (b .stones-by .ensures .1 ∙ masks-by l _ p White (s .pre .2)))
     (masks-sound White l p (s .pre .0) (s .pre .1)))
     (c .black-rows-near .ensures)
 
 pub rows-on-spec : {M : Type 1} → statement M
-rows-on-spec = tie.close (tie.spec stones-on-requires black-rows-near-requires returns)
+rows-on-spec = tie.close (tie.spec stones-by-requires black-rows-near-requires returns)
