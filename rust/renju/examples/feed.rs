@@ -2,14 +2,13 @@
 //! game of 40 moves is played with two takebacks, the server sends what the client is not known to
 //! hold, and both boards are drawn at the end, with how many messages it took.
 
-use line::Dice;
+use dice::Dice;
 use renju::feed::{Answer, Client, Message, Server};
 use renju::{CELLS, Cells, Refusal};
 use std::process::ExitCode;
 
-#[allow(dead_code)] // The table's line is another.
-#[path = "table/house/line.rs"]
-mod line;
+#[path = "table/house/dice.rs"]
+mod dice;
 
 /// One way of the line. What is put on it comes off it in any order, now and then twice, now and
 /// then never. Only bytes travel.

@@ -179,7 +179,7 @@ fn stones_text() {
 #[test]
 fn put_and_remove_as_a_map() {
     let (mut cells, mut map) = (Cells::new(), [None; CELLS]);
-    let mut dice = Dice(3);
+    let mut dice = Dice::new(3);
     for _ in 0..2000 {
         let point = Point::from_code(dice.below(225) as u8).unwrap();
         let place = &mut map[usize::from(point.code())];
@@ -209,7 +209,7 @@ fn stones_and_empty_points() {
 /// A caption that is kept in step move by move is what the points say, and no view changes it.
 #[test]
 fn counts_of_both_sides() {
-    let mut dice = Dice(20261116);
+    let mut dice = Dice::new(20261116);
     for mut cells in boards(40, 7) {
         for _ in 0..60 {
             let point = Point::from_code(dice.below(225) as u8).unwrap();

@@ -19,43 +19,40 @@ fn client(count: u16) -> Client {
     client
 }
 
+/// What a client of game 7 with so many moves refuses of a message, in document 02's order.
+fn refused(count: u16, message: Message) -> Option<Refusal> {
+    if message.game != 7 {
+        Some(Refusal::ForeignGame)
+    } else if message.number != count + 1 {
+        Some(Refusal::NotNext)
+    } else if message.code > 224 {
+        Some(Refusal::Point)
+    } else if count == MOVES as u16 {
+        Some(Refusal::ManyMoves)
+    } else {
+        None
+    }
+}
+
 /// At every count every number near it, of three games, with a point and without: what is taken is
-/// the next of the own game, and the refusals come in document 02's order.
+/// the next of the own game.
 #[test]
 fn only_the_next_of_its_own_game() {
+    let others = [
+        (6, 0),
+        (7, 224),
+        (8, 225),
+        (7, 225),
+        (7, 255),
+        (u32::MAX, 1),
+    ];
     for count in 0..=MOVES as u16 {
         let before = client(count);
-        for number in [
-            0,
-            1,
-            count.saturating_sub(1),
-            count,
-            count + 1,
-            count + 2,
-            256,
-            u16::MAX,
-        ] {
-            for (game, code) in [
-                (6, 0),
-                (7, 224),
-                (8, 225),
-                (7, 225),
-                (7, 255),
-                (u32::MAX, 1),
-            ] {
-                let refusal = if game != 7 {
-                    Some(Refusal::ForeignGame)
-                } else if number != count + 1 {
-                    Some(Refusal::NotNext)
-                } else if code > 224 {
-                    Some(Refusal::Point)
-                } else if count == MOVES as u16 {
-                    Some(Refusal::ManyMoves)
-                } else {
-                    None
-                };
-                let mut after = before;
-                let taken = after.take(message(game, number, code));
+        let near = [count.saturating_sub(1), count, count + 1, count + 2];
+        for number in near.into_iter().chain([0, 1, 256, u16::MAX]) {
+            for (game, code) in others {
+                let (mut after, sent) = (before, message(game, number, code));
+                let (taken, refusal) = (after.take(sent), refused(count, sent));
                 assert_eq!(taken.refusal, refusal, "{count} {game} {number} {code}");
                 assert_eq!(taken.answer, after.ask());
                 match refusal {
@@ -98,14 +95,20 @@ fn lent_lists() {
     }
 }
 
-#[test]
-fn the_server() {
+/// A server of game 7 with all the moves that there can be.
+fn full() -> Server {
     let mut server = Server::new(7);
     assert!(server.holds_all());
     for code in 0..CELLS as u8 {
         assert_eq!(server.add(code), Ok(()));
         assert!(!server.holds_all());
     }
+    server
+}
+
+#[test]
+fn a_full_server() {
+    let mut server = full();
     assert_eq!(server.add(0), Err(Refusal::ManyMoves));
     assert_eq!(server.add(225), Err(Refusal::Point));
     assert_eq!(server.count(), 225);
@@ -116,7 +119,12 @@ fn the_server() {
     for number in [0, 226, u16::MAX] {
         assert_eq!(server.message(number), Err(Refusal::NotNext));
     }
-    // Of another game, too much, old: none is heard, or nothing is lost.
+}
+
+/// Of another game, too much, old: none is heard, or nothing is lost.
+#[test]
+fn what_a_server_hears() {
+    let mut server = full();
     for (game, count, all) in [
         (6, 225, false),
         (8, 225, false),
@@ -130,6 +138,16 @@ fn the_server() {
         server.hear(Answer { game, count });
         assert_eq!(server.holds_all(), all, "{game} {count}");
     }
+}
+
+#[test]
+fn a_server_takes_back() {
+    let mut server = full();
+    server.hear(Answer {
+        game: 7,
+        count: 225,
+    });
+    assert!(server.holds_all());
     assert_eq!(server.take_back(), Ok(8));
     assert!(!server.holds_all());
     assert_eq!((server.game(), server.count()), (8, 224));

@@ -72,7 +72,7 @@ fn played(game: &mut Game, point: Point) -> Result<Option<Colour>, Illegal> {
 }
 
 /// A point near others, so that rows come about; at times any point.
-fn pick(dice: &mut Dice, width: u64) -> Point {
+fn pick(dice: &mut Dice, width: usize) -> Point {
     let low = (15 - width) / 2;
     let mut side = || (low + dice.below(width)) as u8;
     Point::new(side(), side()).expect("a point")
@@ -98,7 +98,7 @@ impl Seen {
 }
 
 /// Mostly a point anywhere in a square, at times a cross.
-fn step(game: &mut Game, dice: &mut Dice, width: u64) -> Result<Option<Colour>, Illegal> {
+fn step(game: &mut Game, dice: &mut Dice, width: usize) -> Result<Option<Colour>, Illegal> {
     let cross = game.crosses().first().map(|cross| cross.point);
     let point = match cross {
         Some(point) if dice.below(4) == 0 => point,
@@ -141,7 +141,7 @@ fn back(mut game: Game) {
 
 #[test]
 fn every_step_is_that_of_the_archive() {
-    let (mut dice, mut seen) = (Dice(20261116), Seen::default());
+    let (mut dice, mut seen) = (Dice::new(20261116), Seen::default());
     for _ in 0..30 {
         random_game(&mut dice, &mut seen);
     }

@@ -41,7 +41,7 @@ fn cases_on_lines() {
 /// by two, has it.
 #[test]
 fn starts_through_a_cell() {
-    let mut dice = Dice(6);
+    let mut dice = Dice::new(6);
     for _ in 0..500 {
         let size = 5 + dice.below(11) as u8;
         let room = (1u16 << size) - 1;
@@ -78,7 +78,7 @@ fn questions() -> impl Iterator<Item = (Colour, Kind)> {
 /// A line's rows on a board: those of row 8 alone, and no other.
 #[test]
 fn a_line_on_a_board() {
-    let mut dice = Dice(7);
+    let mut dice = Dice::new(7);
     for _ in 0..200 {
         let blacks = dice.roll() as u16 & 0x7fff;
         let whites = dice.roll() as u16 & 0x7fff & !blacks;

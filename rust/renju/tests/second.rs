@@ -55,7 +55,7 @@ fn game(dice: &mut Dice, moves: usize) -> Cells {
         } else {
             near
         };
-        last = free[dice.below(free.len() as u64) as usize];
+        last = free[dice.below(free.len())];
         cells.put(last, colour);
     }
     cells
@@ -69,7 +69,7 @@ fn swapped(cells: &Cells) -> Cells {
 
 /// Empty, full and nested boards, games, and boards of any density.
 fn all_boards() -> Vec<Cells> {
-    let mut dice = Dice(15);
+    let mut dice = Dice::new(15);
     let mixed: [u8; 225] = std::array::from_fn(|_| 1 + dice.below(2) as u8);
     let full = [[1; 225], [2; 225], mixed].map(|bytes| Cells::from_bytes(&bytes).expect("cells"));
     let mut all = vec![Cells::new()];

@@ -6,9 +6,9 @@
 mod house;
 
 use house::House;
+use house::dice::Dice;
 use house::events::{Seat, hex};
 use house::http::{self, Method, Status};
-use house::line::Dice;
 use house::routes::{self, Said};
 use house::table::{No, PAGES, Table};
 use house::times::Times;

@@ -120,20 +120,22 @@ fn a_chart_draws_each_point_and_leaves_the_others_hollow() {
     assert!(!text.contains("NaN") && !text.contains("inf"), "{text}");
 }
 
-/// A group has the boards of its number, and no more than it should.
+/// Little of everything.
+const LITTLE: Settings = Settings {
+    seed: 5,
+    boards: 2,
+    looked_at: 40,
+    pace: Pace {
+        warm_up: 0,
+        rounds: 1,
+        sample: 0.0,
+    },
+};
+
+/// A group has the boards of its number of stones.
 #[test]
-fn boards_by_stones_and_by_depth() {
-    let settings = Settings {
-        seed: 5,
-        boards: 2,
-        looked_at: 40,
-        pace: Pace {
-            warm_up: 0,
-            rounds: 1,
-            sample: 0.0,
-        },
-    };
-    let stones = growth::by_stones(&settings, 60);
+fn boards_by_stones() {
+    let stones = growth::by_stones(&LITTLE, 60);
     let numbers: Vec<_> = stones
         .iter()
         .map(|group| (group.number, group.sort))
@@ -153,8 +155,13 @@ fn boards_by_stones_and_by_depth() {
             assert_eq!(count, group.number);
         }
     }
+}
+
+/// A group has the boards of its depth, and no more than it should.
+#[test]
+fn boards_by_depth() {
     let deepest = include_str!("../../renju/tests/deepest.txt");
-    let depths = growth::by_depth(&settings, deepest);
+    let depths = growth::by_depth(&LITTLE, deepest);
     assert_eq!(depths.last().map(|group| group.number), Some(27));
     for group in &depths {
         assert!((1..=2).contains(&group.boards.len()));
@@ -164,7 +171,7 @@ fn boards_by_stones_and_by_depth() {
                 .iter()
                 .all(|ready| growth::depth_of(&ready.cells) == group.number)
         );
-        let measured = growth::measured(group, &settings.pace).expect("the answers agree");
+        let measured = growth::measured(group, &LITTLE.pace).expect("the answers agree");
         assert!(measured.ours.p50 > 0.0 && measured.original.p50 > 0.0);
     }
 }

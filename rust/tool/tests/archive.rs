@@ -1,29 +1,19 @@
 //! Files of games and boards: input order on all cores, several files, SGF, long lines, room that does not grow.
 
 mod common;
+#[path = "../../renju/examples/table/house/dice.rs"]
+mod dice;
 
 use common::{RENJU, fed, folder, run};
+use dice::Dice;
 use renju::Moves;
 use std::io::{BufRead, BufReader, Write};
 use std::process::{Command, Stdio};
 use std::thread;
 
-/// Splitmix64: small, and the same numbers for the same seed everywhere.
-struct Dice(u64);
-
-impl Dice {
-    fn below(&mut self, end: u64) -> u64 {
-        self.0 = self.0.wrapping_add(0x9e37_79b9_7f4a_7c15);
-        let mut z = self.0;
-        z = (z ^ (z >> 30)).wrapping_mul(0xbf58_476d_1ce4_e5b9);
-        z = (z ^ (z >> 27)).wrapping_mul(0x94d0_49bb_1331_11eb);
-        (z ^ (z >> 31)) % end
-    }
-}
-
 /// Lines of games of very different lengths, some of them no games.
 fn lines(count: usize, seed: u64) -> Vec<String> {
-    let mut dice = Dice(seed);
+    let mut dice = Dice::new(seed);
     let mut point = |_| {
         let letter = char::from(b'A' + dice.below(15) as u8);
         let row = 1 + dice.below(15) + 300 * (dice.below(2000) / 1999);

@@ -1,23 +1,10 @@
 //! Boards for the tests, made from a seed.
 
+#[path = "../../examples/table/house/dice.rs"]
+mod dice;
+
+pub use dice::Dice;
 use renju::{CELLS, Cells};
-
-/// Splitmix64: small, and the same numbers for the same seed everywhere.
-pub struct Dice(pub u64);
-
-impl Dice {
-    pub fn roll(&mut self) -> u64 {
-        self.0 = self.0.wrapping_add(0x9e37_79b9_7f4a_7c15);
-        let mut z = self.0;
-        z = (z ^ (z >> 30)).wrapping_mul(0xbf58_476d_1ce4_e5b9);
-        z = (z ^ (z >> 27)).wrapping_mul(0x94d0_49bb_1331_11eb);
-        z ^ (z >> 31)
-    }
-
-    pub fn below(&mut self, end: u64) -> u64 {
-        self.roll() % end
-    }
-}
 
 /// A board with some density of stones, two black to one white: with more
 /// white ones there would be few rows.
@@ -33,6 +20,6 @@ pub fn board(dice: &mut Dice) -> Cells {
 }
 
 pub fn boards(count: usize, seed: u64) -> Vec<Cells> {
-    let mut dice = Dice(seed);
+    let mut dice = Dice::new(seed);
     (0..count).map(|_| board(&mut dice)).collect()
 }

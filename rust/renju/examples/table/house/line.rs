@@ -1,27 +1,6 @@
 //! The line to a page: a good one hands everything over in order, a poor one loses, repeats and reorders, by a seed.
 
-/// Numbers that look like chance, the same for the same seed.
-pub struct Dice(u64);
-
-impl Dice {
-    pub const fn new(seed: u64) -> Self {
-        Self(seed)
-    }
-
-    fn roll(&mut self) -> u64 {
-        self.0 = self.0.wrapping_add(0x9e37_79b9_7f4a_7c15);
-        let mixed = (self.0 ^ (self.0 >> 30)).wrapping_mul(0xbf58_476d_1ce4_e5b9);
-        let mixed = (mixed ^ (mixed >> 27)).wrapping_mul(0x94d0_49bb_1331_11eb);
-        mixed ^ (mixed >> 31)
-    }
-
-    /// A number below `end`; 0 where there is none.
-    pub fn below(&mut self, end: usize) -> usize {
-        let roll = self.roll();
-        // Less than `end`, so it is a usize.
-        roll.checked_rem(end as u64).unwrap_or(0) as usize
-    }
-}
+use super::dice::Dice;
 
 /// How much may be on its way; what is put on a full line is lost.
 pub const ROOM: usize = 64;

@@ -3,6 +3,7 @@
 //!
 //! Nothing is stored, and no thread holds back the end: Ctrl-C (SIGINT, which is left as it is) ends the process with all of them.
 
+pub mod dice;
 pub mod events;
 pub mod http;
 pub mod line;
