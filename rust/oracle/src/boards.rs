@@ -7,10 +7,12 @@ use crate::original;
 pub struct Dice(u64);
 
 impl Dice {
+    /// Rolls that follow from the seed.
     pub fn new(seed: u64) -> Self {
         Self(seed)
     }
 
+    /// The next number, of all 64 bits.
     pub fn roll(&mut self) -> u64 {
         self.0 = self.0.wrapping_add(0x9e37_79b9_7f4a_7c15);
         let mut z = self.0;
@@ -29,6 +31,7 @@ impl Dice {
         self.below(100) < percent
     }
 
+    /// One of a list that is not empty.
     pub fn pick<T: Copy>(&mut self, from: &[T]) -> T {
         from[self.below(from.len())]
     }
@@ -44,6 +47,7 @@ pub enum Sort {
     Game,
 }
 
+/// All sorts.
 pub const SORTS: [Sort; 5] = [
     Sort::Random,
     Sort::Clustered,
@@ -55,6 +59,7 @@ pub const SORTS: [Sort; 5] = [
 /// How deep the verdicts of a nested board go at least.
 pub const NESTED_DEPTH: usize = 4;
 
+/// A board of a sort.
 pub fn of_sort(sort: Sort, dice: &mut Dice) -> Cells {
     match sort {
         Sort::Random => random(dice),
@@ -68,6 +73,7 @@ pub fn of_sort(sort: Sort, dice: &mut Dice) -> Cells {
     }
 }
 
+/// How many stones a board has.
 pub fn stone_count(cells: &Cells) -> usize {
     cells.iter().filter(|&&v| v != EMPTY).count()
 }

@@ -12,6 +12,7 @@ pub struct LineCase {
     pub stones: &'static [usize],
 }
 
+/// C1 to C5.
 pub const LINE_CASES: [LineCase; 6] = [
     line_case("C1", 5, BLACK, &[0, 1, 2, 3]),
     line_case("C2", 15, BLACK, &[2, 3, 4]),
@@ -105,6 +106,7 @@ const fn board_case(
 }
 
 impl BoardCase {
+    /// The board's cell bytes.
     pub fn cells(&self) -> Cells {
         let mut cells = [EMPTY; POINTS];
         for (stones, colour) in [(self.blacks, BLACK), (self.whites, WHITE)] {
@@ -115,6 +117,7 @@ impl BoardCase {
         cells
     }
 
+    /// The code of the point that is asked.
     pub fn point(&self) -> usize {
         code_of(self.at)
     }
@@ -288,6 +291,7 @@ const fn turning(
 }
 
 impl Turning {
+    /// The board's cell bytes.
     pub fn cells(&self) -> Cells {
         let mut cells = [EMPTY; POINTS];
         for name in self.blacks.split_whitespace() {
@@ -296,6 +300,7 @@ impl Turning {
         cells
     }
 
+    /// The code of the point that is asked.
     pub fn point(&self) -> usize {
         code_of(self.at)
     }

@@ -124,6 +124,7 @@ pub fn strict(cells: &Cells, board: &Board, p: u8) -> Held<u8> {
     both_strict(cells, board, p).held(&asked, cells)
 }
 
+/// The strict verdict at a point, by both.
 pub fn both_strict(cells: &Cells, board: &Board, p: u8) -> Both<u8> {
     both_verdicts(naive::strict(cells, p.into()), original::strict(board, p))
 }
@@ -148,6 +149,7 @@ pub fn forbidden_list(cells: &Cells, board: &Board) -> Held<Vec<(u8, u8)>> {
     both_lists(cells, board).held("forbidden list", cells)
 }
 
+/// The forbidden list, by both.
 pub fn both_lists(cells: &Cells, board: &Board) -> Both<Vec<(u8, u8)>> {
     let (naive, left_out) = naive::listed(cells);
     Both {

@@ -11,17 +11,25 @@ use std::sync::LazyLock;
 /// "Cell bytes are 225 bytes in code order: 0 empty, 1 black, 2 white."
 pub type Cells = [u8; POINTS];
 
+/// How many points a side of the board has.
 pub const SIDE: usize = 15;
+/// How many points the board has.
 pub const POINTS: usize = SIDE * SIDE;
 
+/// The byte of an empty cell.
 pub const EMPTY: u8 = 0;
+/// The byte of a black stone, and Black's number.
 pub const BLACK: u8 = 1;
+/// The byte of a white stone, and White's number.
 pub const WHITE: u8 = 2;
 
 /// "none as a number is 0", "1 DoubleThree, 2 DoubleFour, 3 Overline".
 pub const NONE: u8 = 0;
+/// The number of a double three.
 pub const DOUBLE_THREE: u8 = 1;
+/// The number of a double four.
 pub const DOUBLE_FOUR: u8 = 2;
+/// The number of an overline.
 pub const OVERLINE: u8 = 3;
 
 /// "a direction over 3 (section 4's order)": vertical, horizontal,
@@ -43,6 +51,7 @@ pub enum Kind {
 
 pub use Kind::*;
 
+/// The kinds by their numbers.
 pub const KINDS: [Kind; 8] = [
     Two, Three, Straight, Sword, Four, Five, Overlining, Overlined,
 ];

@@ -31,6 +31,7 @@ pub fn player(colour: u8) -> Player {
     Player::from(colour == 1)
 }
 
+/// The point of a code.
 pub fn point(code: u8) -> Point {
     Point::try_from(code).expect("a code below 225")
 }
@@ -84,6 +85,7 @@ fn verdict_number(kind: Option<ForbiddenKind>) -> u8 {
     }
 }
 
+/// The strict verdict.
 pub fn strict(board: &Board, code: u8) -> u8 {
     verdict_number(board.forbidden_strict(point(code)))
 }
@@ -93,6 +95,7 @@ pub fn plain(board: &Board, code: u8) -> u8 {
     verdict_number(board.forbidden(point(code)))
 }
 
+/// The forbidden points, each as its kind and its code.
 pub fn forbidden_list(board: &Board) -> Vec<(u8, u8)> {
     let numbers = |(kind, p)| (verdict_number(Some(kind)), u8::from(p));
     board.forbidden_points().into_iter().map(numbers).collect()
@@ -111,28 +114,34 @@ fn row_bytes(row: Row) -> [u8; 4] {
     [key as u8, start.j, stones, eyes]
 }
 
+/// The rows of a kind, four bytes each.
 pub fn rows(board: &Board, colour: u8, kind: u8) -> Vec<[u8; 4]> {
     let found = board.rows(player(colour), KINDS[kind as usize]);
     found.map(row_bytes).collect()
 }
 
+/// The rows of a kind through a point, four bytes each.
 pub fn rows_on(board: &Board, code: u8, colour: u8, kind: u8) -> Vec<[u8; 4]> {
     let found = board.rows_on(point(code), player(colour), KINDS[kind as usize]);
     found.map(row_bytes).collect()
 }
 
+/// The codes of the four eyes through a point.
 pub fn four_eyes_on(board: &Board, code: u8, colour: u8) -> Vec<u8> {
     codes(board.four_eyes_on(point(code), player(colour)))
 }
 
+/// The codes of the points around a point, up to a distance, or of the empty ones among them.
 pub fn neighbours(board: &Board, code: u8, distance: u8, only_empty: bool) -> Vec<u8> {
     codes(board.neighbors(point(code), distance, only_empty))
 }
 
+/// The codes of a side's stones.
 pub fn stones(board: &Board, colour: u8) -> Vec<u8> {
     codes(board.stones(player(colour)))
 }
 
+/// The codes of the empty points.
 pub fn empty_points(board: &Board) -> Vec<u8> {
     codes(board.empty_points())
 }

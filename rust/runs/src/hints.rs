@@ -30,8 +30,9 @@ pub struct Tally {
     pub first: Option<String>,
 }
 
-/// A plan by cells, side, limit and room; a check by cells, side and list.
+/// A plan by cells, side, limit and room.
 pub type Plan<'a> = dyn Fn(&[u8], u8, u8, &mut [u8]) -> u32 + 'a;
+/// A check by cells, side and list.
 pub type Check<'a> = dyn Fn(&[u8], u8, &[u8]) -> u32 + 'a;
 
 /// The two functions that are asked.
@@ -144,6 +145,7 @@ impl Tally {
         self.first.get_or_insert(text);
     }
 
+    /// The counts and the first difference, in words.
     pub fn report(&self) -> String {
         let first = self.first.as_deref().unwrap_or("");
         let given = self.refusals.iter().enumerate();

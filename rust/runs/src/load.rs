@@ -23,6 +23,7 @@ const FRAMES_A_BOARD: usize = 6;
 
 /// What stands on a table, and can be asked under its lock.
 pub trait Seat: Clone + Send + Sync {
+    /// A board of the pool, as this referee keeps it.
     fn of(ready: &Ready) -> Self;
     /// Asks the list, and says how many points it names.
     fn ask(&self) -> usize;
@@ -62,6 +63,7 @@ pub struct Held {
 const PARTS: u32 = 5;
 
 impl Held {
+    /// No lock was held yet.
     pub fn new() -> Self {
         Self {
             counts: vec![0; 64 << PARTS],
@@ -69,11 +71,13 @@ impl Held {
         }
     }
 
+    /// A lock that was held so long.
     pub fn add(&mut self, nanos: u64) {
         self.counts[bucket(nanos)] += 1;
         self.most = self.most.max(nanos);
     }
 
+    /// Adds those of another worker.
     pub fn join(&mut self, other: &Self) {
         for (count, more) in self.counts.iter_mut().zip(&other.counts) {
             *count += more;
@@ -81,6 +85,7 @@ impl Held {
         self.most = self.most.max(other.most);
     }
 
+    /// How many locks.
     pub fn count(&self) -> u64 {
         self.counts.iter().sum()
     }
@@ -137,6 +142,7 @@ pub struct Outcome {
 }
 
 impl Outcome {
+    /// Whether no frame was late.
     pub fn is_in_time(&self) -> bool {
         self.late == 0
     }

@@ -71,10 +71,12 @@ pub struct Tally {
 }
 
 impl Tally {
+    /// How many comparisons, of both functions.
     pub fn comparisons(&self) -> u64 {
         self.counts.iter().map(|count| count.comparisons).sum()
     }
 
+    /// How many differences, of both functions.
     pub fn differences(&self) -> u64 {
         self.counts.iter().map(|count| count.differences).sum()
     }

@@ -21,6 +21,7 @@ impl Line {
         self.blacks & self.whites == 0 && outside == 0
     }
 
+    /// How many stones the line has.
     pub fn stone_count(&self) -> usize {
         (self.blacks.count_ones() + self.whites.count_ones()) as usize
     }
@@ -186,10 +187,12 @@ impl Call {
         }
     }
 
+    /// The function's name.
     pub fn name(&self) -> &'static str {
         NAMES[self.number()]
     }
 
+    /// What is lent to the call.
     pub fn lends(&self) -> Lends {
         match self {
             Call::Put { .. } | Call::Remove { .. } => Lends::Cells,
@@ -206,6 +209,7 @@ impl Call {
         self.takes_a_text() || *self == Call::Game
     }
 
+    /// Whether the bytes handed over are a text.
     pub fn takes_a_text(&self) -> bool {
         matches!(self, Call::Read | Call::ReadDiagram | Call::Convert)
     }
@@ -258,10 +262,12 @@ pub struct Given {
 }
 
 impl Given {
+    /// No bytes.
     pub fn nothing() -> Self {
         Self::text(&[])
     }
 
+    /// Bytes that are no cells.
     pub fn text(bytes: &[u8]) -> Self {
         Self {
             bytes: bytes.to_vec(),

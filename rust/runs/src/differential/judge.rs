@@ -94,6 +94,7 @@ pub struct Judge<'a> {
 }
 
 impl<'a> Judge<'a> {
+    /// Nothing is compared yet.
     pub fn new(host: &'a Host<'a>, progress: &'a Progress, seed: u64) -> Self {
         // With room from the start: bytes that lie nowhere are slow to compare, even when there
         // are none of them.

@@ -102,6 +102,7 @@ fn rooms() -> [Room; 5] {
     ]
 }
 
+/// Asks at all limits.
 pub fn all(judge: &mut Judge) {
     boards(judge);
     unsound_cells(judge);

@@ -81,6 +81,7 @@ pub fn left_out(tally: &Tally) -> String {
     )
 }
 
+/// The last line: how many comparisons and differences.
 pub fn total(tally: &Tally) -> String {
     format!(
         "{} comparisons, {} differences\n",

@@ -81,10 +81,12 @@ impl Count {
 }
 
 impl Tally {
+    /// How many comparisons, of all functions.
     pub fn comparisons(&self) -> u64 {
         self.counts.iter().map(|count| count.comparisons).sum()
     }
 
+    /// How many differences, of all functions.
     pub fn differences(&self) -> u64 {
         self.counts.iter().map(|count| count.differences).sum()
     }
@@ -96,6 +98,7 @@ impl Tally {
             .filter_map(|count| count.smallest.as_ref())
     }
 
+    /// Counts one comparison, of a call that was to be refused so (0: not).
     pub fn count(&mut self, call: &Call, refusal: u32, differs: bool) {
         let count = &mut self.counts[call.number()];
         count.comparisons += 1;
@@ -105,6 +108,7 @@ impl Tally {
         }
     }
 
+    /// Keeps a difference, if it is its function's smallest.
     pub fn keep(&mut self, difference: Difference) {
         self.counts[difference.case.call.number()].keep(difference);
     }

@@ -25,6 +25,7 @@ pub fn take_refusal(game: u32, count: usize, message: Message) -> u16 {
     }
 }
 
+/// What is refused of a move that is added to so many (0: nothing).
 pub fn add_refusal(count: usize, code: u8) -> u16 {
     if code > 224 {
         8
@@ -49,6 +50,7 @@ pub fn missing(first: &[u8], second: &[u8]) -> u32 {
 }
 
 impl Plain {
+    /// A game begins, with nothing played or held.
     pub fn new(game: u32) -> Self {
         Self {
             game,
@@ -63,6 +65,7 @@ impl Plain {
         &self.lists[&self.game]
     }
 
+    /// A move at the server; what is refused of it (0: nothing).
     pub fn add(&mut self, code: u8) -> u16 {
         let list = self.lists.get_mut(&self.game).expect("a list");
         let refused = add_refusal(list.len(), code);
@@ -87,6 +90,7 @@ impl Plain {
         0
     }
 
+    /// The message of a move, by its number, or the refusal.
     pub fn message(&self, number: u16) -> Result<Message, u16> {
         let place = usize::from(number).wrapping_sub(1);
         let code = *self.list().get(place).ok_or(18u16)?;
@@ -104,11 +108,13 @@ impl Plain {
         refused
     }
 
+    /// What the client of a game answers: how many moves it holds.
     pub fn ask(&self, game: u32) -> Answer {
         let count = self.held[&game].len() as u16;
         Answer { game, count }
     }
 
+    /// An answer at the server; of another game it is not heard.
     pub fn hear(&mut self, answer: Answer) {
         if answer.game == self.game {
             self.heard.push(answer.count);

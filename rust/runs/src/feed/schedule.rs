@@ -12,6 +12,7 @@ use std::collections::BTreeMap;
 /// How many moves a schedule adds at most.
 const MOVES: usize = 60;
 
+/// One run of both sides and of the plain model, over a line that loses, repeats and reorders.
 pub struct Schedule<'a> {
     sides: &'a Sides,
     dice: &'a mut Dice,
@@ -42,6 +43,7 @@ impl<'a> Schedule<'a> {
         }
     }
 
+    /// Plays the schedule to its end.
     pub fn run(&mut self) {
         let moves = self.dice.below(MOVES + 1);
         for _ in 0..moves {

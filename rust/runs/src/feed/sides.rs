@@ -6,21 +6,33 @@ use renju::{Cells, Refusal};
 
 /// A client; 0 for what is not refused.
 pub trait Thin {
+    /// Takes a message; the refusal (0: none), and the answer.
     fn take(&mut self, message: Message) -> (u16, Answer);
+    /// What it holds, as an answer.
     fn ask(&self) -> Answer;
+    /// The moves that it holds.
     fn codes(&self) -> &[u8];
+    /// Its board.
     fn cells(&self) -> Cells;
 }
 
 /// A server.
 pub trait Serves {
+    /// Adds a move; the refusal (0: none).
     fn add(&mut self, code: u8) -> u16;
+    /// Takes the last move back; the refusal (0: none).
     fn take_back(&mut self) -> u16;
+    /// The message of a move, by its number, or the refusal.
     fn message(&self, number: u16) -> Result<Message, u16>;
+    /// Hears an answer.
     fn hear(&mut self, answer: Answer);
+    /// Whether it has heard that the client holds all.
     fn holds_all(&self) -> bool;
+    /// The number of its game.
     fn game(&self) -> u32;
+    /// Its game's moves.
     fn codes(&self) -> &[u8];
+    /// Its board.
     fn cells(&self) -> Cells;
 }
 
@@ -32,6 +44,7 @@ pub struct Sides {
     pub missing: fn(&[u8], &[u8]) -> u32,
 }
 
+/// Those of the crate, and of the host interface.
 pub const OURS: Sides = Sides {
     client: |game| Box::new(Client::new(game)),
     server: |game| Box::new(Server::new(game)),

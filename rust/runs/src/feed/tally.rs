@@ -19,19 +19,31 @@ pub const NAMES: [&str; 13] = [
     "5 no answer claims too much",
 ];
 
-// The places of the names.
+/// The place in [`NAMES`]: a move is added.
 pub const ADD: usize = 0;
+/// The place in [`NAMES`]: the last move is taken back.
 pub const TAKE_BACK: usize = 1;
+/// The place in [`NAMES`]: a message is made.
 pub const MESSAGE: usize = 2;
+/// The place in [`NAMES`]: a client takes a message.
 pub const TAKE: usize = 3;
+/// The place in [`NAMES`]: a client is asked what it holds.
 pub const ASK: usize = 4;
+/// The place in [`NAMES`]: a server hears an answer.
 pub const HEAR: usize = 5;
+/// The place in [`NAMES`]: the client over lent bytes.
 pub const LENT: usize = 6;
+/// The place in [`NAMES`]: two held lists are compared.
 pub const MISSING: usize = 7;
+/// The place in [`NAMES`]: sentence 1.
 pub const FIRST_PART: usize = 8;
+/// The place in [`NAMES`]: sentence 2.
 pub const EQUAL: usize = 9;
+/// The place in [`NAMES`]: sentence 3.
 pub const CAUGHT_UP: usize = 10;
+/// The place in [`NAMES`]: sentence 4.
 pub const UNCHANGED: usize = 11;
+/// The place in [`NAMES`]: sentence 5.
 pub const CLAIMED: usize = 12;
 
 /// The counts of one name.
@@ -43,6 +55,7 @@ pub struct Count {
     pub refusals: [u64; 20],
 }
 
+/// The counts of all names, and the first difference.
 #[derive(Debug, Clone, Default)]
 pub struct Tally {
     pub schedules: u64,

@@ -2,10 +2,12 @@
 
 use oracle::naive;
 
+/// A board, as the naive reading has it.
 pub type Cells = naive::Cells;
 
 const STEPS: [(i32, i32); 4] = [(0, 1), (1, 0), (1, 1), (1, -1)];
 
+/// The other side.
 pub fn other(side: u8) -> u8 {
     3 - side
 }
@@ -48,16 +50,19 @@ pub fn completes(cells: &Cells, p: u8, side: u8) -> bool {
     cells[usize::from(p)] == 0 && !windows(cells, p, side, 4).is_empty()
 }
 
+/// Whether the side has a five.
 pub fn has_five(cells: &Cells, side: u8) -> bool {
     (0..225).any(|p| cells[usize::from(p)] == side && !windows(cells, p, side, 5).is_empty())
 }
 
+/// The board with one more stone.
 pub fn with(cells: &Cells, p: u8, side: u8) -> Cells {
     let mut next = *cells;
     next[usize::from(p)] = side;
     next
 }
 
+/// Whether the side may play at a point.
 pub fn legal(cells: &Cells, p: u8, side: u8) -> bool {
     cells[usize::from(p)] == 0 && (side == 2 || naive::strict(cells, usize::from(p)).verdict == 0)
 }

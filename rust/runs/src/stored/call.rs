@@ -29,14 +29,17 @@ pub fn ask(call: &Call, out: &mut [u8]) -> u32 {
 }
 
 impl<'a> Call<'a> {
+    /// A game is written in tagged form.
     pub fn write(moves: &'a [u8], view: u8) -> Self {
         Call::Write { moves, view }
     }
 
+    /// A record is taken back to codes.
     pub fn back(record: &'a [u8]) -> Self {
         Call::Back { record }
     }
 
+    /// A record's view is asked.
     pub fn view(record: &'a [u8]) -> Self {
         Call::View { record }
     }

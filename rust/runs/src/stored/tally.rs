@@ -67,10 +67,12 @@ impl Tally {
         self.counts[call.number()].smallest = Some(found);
     }
 
+    /// How many comparisons, of all functions.
     pub fn comparisons(&self) -> u64 {
         self.counts.iter().map(|count| count.comparisons).sum()
     }
 
+    /// How many differences, of all functions.
     pub fn differences(&self) -> u64 {
         self.counts.iter().map(|count| count.differences).sum()
     }

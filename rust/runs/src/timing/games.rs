@@ -122,6 +122,7 @@ pub struct Games {
 }
 
 impl Games {
+    /// The questions: each game is one.
     pub fn new(games: Vec<Vec<u8>>) -> Self {
         Self {
             games,

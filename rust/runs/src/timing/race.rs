@@ -5,6 +5,7 @@ use std::time::Instant;
 
 /// Questions that both can be asked, told by number.
 pub trait Race {
+    /// How many questions there are.
     fn count(&self) -> usize;
     /// Asks both, outside any timed part, and says whether they answer the same.
     fn agrees(&mut self, question: usize) -> bool;

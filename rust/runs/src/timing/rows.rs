@@ -37,6 +37,7 @@ pub struct Lists<'a> {
 }
 
 impl<'a> Lists<'a> {
+    /// The questions: each board is one.
     pub fn new(boards: &'a [Ready], other: Other) -> Self {
         Self {
             boards,
@@ -112,6 +113,7 @@ pub struct Verdicts<'a> {
 }
 
 impl<'a> Verdicts<'a> {
+    /// The questions: every empty point of every board is one.
     pub fn new(boards: &'a [Ready], other: Other) -> Self {
         let places = places(boards);
         Self {
@@ -180,8 +182,10 @@ pub enum Form {
 }
 
 impl Form {
+    /// Both.
     pub const ALL: [Self; 2] = [Self::Board, Self::Grid];
 
+    /// What the row of the table is called.
     pub fn words(self) -> &'static str {
         match self {
             Self::Board => "games, original's Board",
@@ -199,6 +203,7 @@ pub struct Changes {
 }
 
 impl Changes {
+    /// The questions: every empty point of every board is one.
     pub fn new(boards: Vec<Ready>, form: Form) -> Self {
         let places = places(&boards);
         Self {
@@ -287,6 +292,7 @@ pub struct Turns {
 }
 
 impl Turns {
+    /// The questions: the boards by turns.
     pub fn new(boards: Vec<Ready>, form: Form) -> Self {
         let places = boards.iter().map(|board| board.empty().collect()).collect();
         Self {
@@ -364,8 +370,10 @@ pub enum Written {
 }
 
 impl Written {
+    /// All forms.
     pub const ALL: [Self; 3] = [Self::Diagram, Self::Stones, Self::Moves];
 
+    /// What the row of the table is called.
     pub fn words(self) -> &'static str {
         match self {
             Self::Diagram => "read a diagram",
@@ -418,6 +426,7 @@ pub struct Texts<'a> {
 }
 
 impl<'a> Texts<'a> {
+    /// The questions: each text is one.
     pub fn new(boards: Vec<&'a Ready>, written: Written, form: Form) -> Self {
         Self {
             texts: boards.iter().map(|ready| written.text(ready)).collect(),

@@ -18,6 +18,7 @@ pub struct Ready {
 }
 
 impl Ready {
+    /// The board in all forms.
     pub fn new(cells: Cells) -> Self {
         let board = original::to_board(&cells);
         let text = board.to_string();

@@ -17,6 +17,7 @@ pub struct Row {
 }
 
 impl Row {
+    /// The line of what was timed.
     pub fn new(question: &str, boards: &str, times: &Times) -> Self {
         Self {
             question: question.to_string(),
