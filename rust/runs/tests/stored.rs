@@ -131,7 +131,7 @@ fn damaged_is_damaged() {
 
 #[test]
 fn wrong_usage() {
-    for wrong in [vec!["x"], vec!["-1"], vec!["1"; 3]] {
+    for wrong in [vec!["x"], vec!["-1"], vec!["1", "1", "10"], vec!["1"; 4]] {
         let program = Command::new(env!("CARGO_BIN_EXE_stored"))
             .args(wrong)
             .output();

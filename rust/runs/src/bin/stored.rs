@@ -1,6 +1,6 @@
-//! Stored games against a plain reading of document 02: `stored [N [SEED]]`. Every record of up to
-//! nine bytes from a small set, then N games as they are and N damaged records. Exit 1 on any
-//! difference.
+//! Stored games against a plain reading of document 02: `stored [N [SEED [LONGEST]]]`. Every record
+//! of up to LONGEST bytes, nine where it is not said, from a small set, then N games as they are and N
+//! damaged records. Exit 1 on any difference.
 
 use runs::stored::call::ask;
 use runs::stored::{Plan, run};
@@ -9,7 +9,7 @@ use std::time::Instant;
 
 fn main() -> ExitCode {
     let Some(plan) = plan() else {
-        eprintln!("usage: stored [N [SEED]]");
+        eprintln!("usage: stored [N [SEED [LONGEST]]]");
         return ExitCode::from(2);
     };
     println!(
@@ -27,11 +27,12 @@ fn main() -> ExitCode {
 /// and codes, good ones and the first that are not.
 fn plan() -> Option<Plan> {
     let numbers: Result<Vec<u64>, _> = std::env::args().skip(1).map(|arg| arg.parse()).collect();
-    let numbers = numbers.ok().filter(|numbers| numbers.len() <= 2)?;
+    let numbers = numbers.ok().filter(|numbers| numbers.len() <= 3)?;
     let number = |place: usize, other: u64| numbers.get(place).copied().unwrap_or(other);
-    Some(Plan {
+    let longest = number(2, 9);
+    (longest <= 9).then(|| Plan {
         bytes: vec![0, 1, 2, 3, 7, 8, 224, 225],
-        longest: 9,
+        longest: longest as usize,
         damaged: number(0, 1_000_000),
         seed: number(1, 1),
     })
