@@ -39,8 +39,11 @@ pub type Told = Box<dyn FnOnce() -> Vec<Cross>>;
 
 /// Another referee, with a board of its own on the table.
 pub trait Other: Send {
+    /// What its way is called.
     fn name(&self) -> &'static str;
+    /// Puts a stone on its board.
     fn put(&mut self, point: Point, colour: Colour);
+    /// Takes all stones off its board.
     fn clear(&mut self);
     /// Asks for the list, under the lock; what is told of it comes after.
     fn ask(&self) -> Told;

@@ -53,6 +53,7 @@ pub struct Histogram {
 }
 
 impl Histogram {
+    /// The times, in µs, by how long they are.
     pub fn of(micros: &[f64]) -> Self {
         let mut counts = [0; BUCKETS];
         for &time in micros {
@@ -80,6 +81,7 @@ impl Histogram {
         (0..BUCKETS).find(holds).unwrap_or(BUCKETS - 1)
     }
 
+    /// How many of the times are in a bucket.
     pub fn count(&self, bucket: usize) -> usize {
         self.counts[bucket]
     }
