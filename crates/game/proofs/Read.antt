@@ -1,6 +1,7 @@
 -- One move by the tests that the code makes, and the loop that reads a game: a turn of it, and its ends. Assumes nothing.
-use mathlib.Core.Path.{_≡_, refl, sym, ap, _∙_}
+use mathlib.Core.Path.{_≡_, refl, sym, ap, subst, _∙_}
 use mathlib.Core.Bool.{Bool, true, false, not, _&&_, cond}
+use mathlib.Core.Logic.{_⊎_, inl, inr}
 use mathlib.Core.List.{List, _∷_}
 use Prim.Native.Nat.{ℕ, suc, _+_, _≤_, _<_}
 use native.Mathlib.Numerals.{add-one}
@@ -9,25 +10,35 @@ use lib.Dec.{eqb, ltb}
 use lib.ListN.{length, getD, drop, drop-of-length-le}
 use lib.Seq.{drop-cons}
 use borrow.Author.Tests.{eqb-true, lt-ltb}
-use Rattle.rules.specs.Numbers.{colourNo, isBlack, isWhite, isNone, opponentOf}
+use Rattle.rules.specs.Numbers.{colourNo, isBlack, isNone, opponentOf}
 use Rattle.rules.specs.Refusals.{codeRefusal}
 use Rattle.rules.specs.Answers.{verdictAnswer}
 use Rattle.rules.specs.Grid.{isEmpty, put, rowsThrough}
-use Rattle.rules.specs.Forbidden.{mayForbid, strictOf}
+use Rattle.rules.specs.Forbidden.{someRow, isOverline, isDoubleFour, mayForbid, strictOf}
 use Rattle.rules.specs.Fives.{makesFive}
 use Rattle.rules.specs.declared.Player.{Player}
 use Rattle.rules.specs.declared.Player.the-variants.{Black, White}
 use Rattle.rules.specs.declared.Verdict.{Verdict}
 use Rattle.rules.specs.declared.answer.VerdictAnswer.{VerdictAnswer}
 use Rattle.rules.specs.declared.answer.VerdictAnswer.the-variants as verdict
-use Rattle.rules.proofs.Logic.{no-true, true-T}
+use Rattle.rules.specs.declared.RowKind.{RowKind}
+use Rattle.rules.specs.declared.RowKind.the-variants.{Two, Sword, Four, Overlining}
+use Rattle.rules.proofs.Logic.{no-true, true-T, decide}
 use Rattle.rules.proofs.Refusals.{none-first, pass}
 use Rattle.rules.proofs.Verdicts.{quiet-none}
+use Rattle.rules.proofs.More.{someRow-same, more-same}
+use Rattle.rules.proofs.Starts.{some-masks, start-low}
+use Rattle.rules.proofs.Fives.{five-told}
+use Rattle.point.specs.Places.{addresses}
+use Rattle.near.specs.Rows.{seen, mayApply}
 use Rattle.cells.specs.Cells.{Cells, cellsRefusal, cellsRefusalAt}
 use Rattle.cells.proofs.Given.{colour-small, cells-pass}
-use Rattle.grid.specs.Lines.{cellsOf, linesOf, Sound, addOn}
+use Rattle.grid.specs.Lines.{cellsOf, linesOf, Sound, addOn, masksBy}
 use Rattle.grid.proofs.Lines.{cells-cellsOf, length-cellsOf, empty-cell, cells-write, sound-write, sound-lines}
 use Rattle.grid.proofs.Marked.{add-write}
+use Rattle.grid.proofs.Placed.{masks-by}
+use Rattle.referee.specs.Referee.{MasksOf}
+use Rattle.referee.proofs.RowsSeen.{seen-rows, masks-sound}
 use Rattle.board.specs.Boards.{boardFrom}
 use Rattle.board.proofs.Given.{from-lines}
 use Rattle.game.specs.Game.{isFault, isWon, isForbidden, lowest, reasonOf, wonAfter, Report, noFault, faultAt, reportFrom, reportOf}
@@ -56,33 +67,49 @@ faultless-empty r won cells p e = go (isEmpty (getD cells p 0)) e
     go true q = refl
     go false q = absurd (no-true (sym q))
 
--- ---- whether a move is forbidden
+-- ---- a glance at the rows through a point, by the masks of its lines
 
-pub white-free : (r : Player) (cells : List ℕ) (p : ℕ) → isWhite r ≡ true → false ≡ isForbidden r cells p
+module _ (r : Player) (cells own other : List ℕ) (p : ℕ) (hp : p < 225) (eo : MasksOf r cells p own)
+    (et : MasksOf (opponentOf r) cells p other) where
+  same : (kind : RowKind) (d j : ℕ) → d < 4 → j < 16 → seen (isBlack r) own other p kind d j ≡ rowsThrough r kind cells p d j
+  same kind d j hd hj = seen-rows r cells own other p hp eo et kind d j hd
+
+  pub four-seen : {b : Bool} → b ≡ someRow (seen (isBlack r) own other p Four) → b ≡ someRow (rowsThrough r Four cells p)
+  four-seen e = e ∙ someRow-same (seen (isBlack r) own other p Four) (rowsThrough r Four cells p) (same Four)
+
+  pub may-seen : r ≡ Black → {b : Bool} → b ≡ mayApply (seen (isBlack r) own other p) → b ≡ mayForbid cells p
+  unfolding mayApply mayForbid isOverline isDoubleFour
+  may-seen er e =
+      e ∙ rw (
+        someRow-same (seen (isBlack r) own other p Overlining) (rowsThrough r Overlining cells p) (same Overlining),
+        more-same (seen (isBlack r) own other p Sword) (rowsThrough r Sword cells p) (same Sword),
+        more-same (seen (isBlack r) own other p Two) (rowsThrough r Two cells p) (same Two),
+        er,
+      )
+
+-- the masks that were read of sound lines
+pub masks-read : (r : Player) (l : List ℕ) (p : ℕ) {table m : List ℕ} → Sound l → p < 225 → table ≡ addresses
+    → m ≡ masksBy l table p r → MasksOf r (cellsOf l) p m
+masks-read r l p {table} s hp et e = subst (MasksOf r (cellsOf l) p) (sym (e ∙ masks-by l table p r et)) (masks-sound r l p s hp)
+
+-- the five by the Fours, at an empty point
+pub five-seen : (r : Player) (cells : List ℕ) (p : ℕ) → length cells ≡ 225 → p < 225 → getD cells p 0 ≡ 0
+    → {b : Bool} → b ≡ someRow (rowsThrough r Four cells p) → b ≡ makesFive r cells p
+five-seen r cells p long hp none e =
+    five-told r cells p long hp none refl (e ∙ sym (some-masks (rowsThrough r Four cells p) (start-low r Four cells p) refl refl))
+
+-- forbidden to Black where the verdict is a kind; it is none where no kind may apply
+pub forbidden-told : (r : Player) (cells : List ℕ) (p : ℕ) → length cells ≡ 225 → p < 225 → {may b : Bool}
+    → may ≡ (isBlack r && mayForbid cells p) → b ≡ (may && not (isNone (strictOf cells p))) → b ≡ isForbidden r cells p
 unfolding isForbidden
-white-free Black cells p e = absurd (no-true e)
-white-free White cells p e = refl
-
--- to Black where the verdict is a kind; it is none where no kind may apply
-module _ (r : Player) (cells : List ℕ) (p : ℕ) (e : isWhite r ≡ false) where
-  pub black-asked : {b : Bool} → b ≡ not (isNone (strictOf cells p)) → b ≡ isForbidden r cells p
-  unfolding isForbidden
-  black-asked q = q ∙ go r e
-    where
-      go : (r : Player) → isWhite r ≡ false → not (isNone (strictOf cells p)) ≡ (isBlack r && not (isNone (strictOf cells p)))
-      go Black e = refl
-      go White e = absurd (no-true (sym e))
-
-  pub black-quiet : length cells ≡ 225 → p < 225 → mayForbid cells p ≡ false → false ≡ isForbidden r cells p
-  black-quiet long hp q = black-asked (ap (λ (v : Verdict). not (isNone v)) (quiet-none cells p long hp q))
-
-  -- these are Black's rows
-  pub black-rows : r ≡ Black
-  black-rows = go r e
-    where
-      go : (r : Player) → isWhite r ≡ false → r ≡ Black
-      go Black e = refl
-      go White e = absurd (no-true (sym e))
+forbidden-told r cells p long hp em e =
+    e ∙ ap (λ (m : Bool). m && not (isNone (strictOf cells p))) em ∙ go r (decide (mayForbid cells p))
+  where
+    go : (r : Player) → (mayForbid cells p ≡ true) ⊎ (mayForbid cells p ≡ false)
+        → ((isBlack r && mayForbid cells p) && not (isNone (strictOf cells p))) ≡ (isBlack r && not (isNone (strictOf cells p)))
+    go White m = refl
+    go Black (inl t) = rw t
+    go Black (inr t) = rw (t, sym (quiet-none cells p long hp t))
 
 -- the question on the cells of lines is not refused
 at-pass : (cells : List ℕ) (p : ℕ) → Cells cells → p < 225 → cellsRefusalAt cells p ≡ 0

@@ -14,20 +14,24 @@ use Rattle.rules.specs.Tools.{anyBelow, tab}
 use Rattle.rules.specs.Bit.{bit, maskOf}
 use Rattle.rules.specs.Line.{Stones, inside, free, count, beside, dead, scores, holds, openAt, overAt, rowAt, span, through}
 use Rattle.rules.specs.Point.{lineNo, cellNo, lineSize}
-use Rattle.rules.specs.Grid.{startMasks}
+use Rattle.rules.specs.Grid.{startMasks, startsOf}
+use Rattle.rules.specs.Forbidden.{someRow, moreThanOne}
 use Rattle.rules.specs.declared.RowKind.{RowKind}
-use Rattle.rules.proofs.Logic.{decide, not-intro, not-elim, not-false, and-left, and-same, and-flip, not-leb}
+use Rattle.rules.specs.declared.RowKind.the-variants.{Two, Sword, Four, Overlining}
+use Rattle.rules.proofs.Logic.{decide, not-intro, not-elim, not-false, and-left, and-right, and-same, and-flip, not-leb}
 use Rattle.rules.proofs.Tables.{table2}
 use Rattle.rules.proofs.Bits.{bit-and, bit-mask, mask-and, mask-or, mask-not, mask-cong}
 use Rattle.rules.proofs.Lists.{tab-cong}
 use Rattle.rules.proofs.Address.{size-le}
 use Rattle.rules.proofs.Windows.{Window, scored, free-at, row-inside, span-le}
 use Rattle.masks.proofs.Windows.{open-bit, over-bit}
-use Rattle.near.specs.Places.{placeIn, pastEnd, spotAt}
+use Rattle.near.specs.Places.{placeIn, pastEnd, spotAt, reaching}
 use Rattle.near.specs.Windows.{aliveWith, freeWith, pairIn}
-use Rattle.near.specs.Rows.{stonesShown, seen}
+use Rattle.near.specs.Rows.{stonesShown, seen, RowsAre, mayApply}
+use Rattle.near.specs.declared.rows.Rows.{Rows}
 use Rattle.near.proofs.Places.{reach-place}
 use Rattle.rules.proofs.Numbered.{in-line, in-cell}
+use Rattle.rules.proofs.Starts.{some-masks, more-masks}
 
 -- four lines of at most 15 cells, laid out in two words: the own stones, and what is blocked
 pub record Laid (size : ℕ → ℕ) (own other : ℕ → Stones) (mine blocked : Stones) : Type 0 where
@@ -272,3 +276,48 @@ module _ (own other : List ℕ) (p : ℕ) where
           ∙ and-same (row d j) (bit reach (16 * d + j)) (through kind (cellNo d p) j)
           (λ t. reach-place (span kind) p d j hd hj (short d j t) es er)
           ∙ and-flip (row d j) (through kind (cellNo d p) j)
+
+  -- so the rows that are read of the windows that were scored are the rows of the four lines
+  pub rows-are : (b : Bool) {off x y mine blocked twos threes fours overs : ℕ} {r : Rows} → off ≡ maskOf 64 (pastEnd p)
+      → x ≡ maskOf 64 (placeIn own) → y ≡ maskOf 64 (placeIn other) → mine ≡ bitAnd x ((2 ^ 64 - 1) - off) → blocked ≡ bitOr y off
+      → (twos ≡ maskOf 64 (aliveWith b (bit mine) (bit blocked) 2)) × (threes ≡ maskOf 64 (aliveWith b (bit mine) (bit blocked) 3))
+      × (fours ≡ maskOf 64 (aliveWith b (bit mine) (bit blocked) 4)) × (overs ≡ maskOf 64 (freeWith (bit mine) (bit blocked) 4))
+      → (r .fours ≡ reaching 5 p fours) × (r .overlinings ≡ reaching 4 p (maskOf 64 (pairIn overs))) × (r .swords ≡ reaching 5 p threes)
+      × (r .twos ≡ reaching 4 p (maskOf 64 (λ k. pairIn twos k && not (bit mine (k + 4)))))
+      → RowsAre (seen b own other p) r
+  unfolding rowAt reaching
+  rows-are b eo ex ey em eb w e =
+      let l = laid eo ex ey em eb in
+      record {
+        fours = e .0 ∙ rows-parted b Four _ (w .2) refl refl (scored-row _ _ _ _ _ l b 4);
+        overlinings = e .1
+            ∙ rows-parted b Overlining _ refl refl refl (λ d j hd hj. over-row _ _ _ _ _ l 4 _ d j hd hj (w .3));
+        swords = e .2 ∙ rows-parted b Sword _ (w .1) refl refl (scored-row _ _ _ _ _ l b 3);
+        twos = e .3
+            ∙ rows-parted b Two _ refl refl refl (λ d j hd hj. open-row _ _ _ _ _ l b 2 _ d j hd hj (w .0));
+      }
+
+  -- no row starts at a line's last place
+  pub seen-low : (b : Bool) (kind : RowKind) → 1 ≤ span kind → (d j : ℕ) → d < 4 → T (seen b own other p kind d j) → j < 15
+  unfolding seen
+  seen-low b kind h d j hd t =
+      omega (
+        arith,
+        h,
+        row-inside b (sizes d) (stonesShown own p d) (stonesShown other p d) kind j (and-right (through kind (cellNo d p) j) _ t),
+        size-le d (lineNo d p),
+      )
+
+  module _ (b : Bool) {r : Rows} (e : RowsAre (seen b own other p) r) where
+    pub four-told : {x : Bool} → x ≡ someRow (startsOf (r .fours)) → x ≡ someRow (seen b own other p Four)
+    four-told ex = some-masks (seen b own other p Four) (seen-low b Four (omega arith)) (e .fours) ex
+
+    pub may-told : {x y z w : Bool} → x ≡ someRow (startsOf (r .overlinings)) → y ≡ moreThanOne (startsOf (r .swords))
+        → z ≡ moreThanOne (startsOf (r .twos)) → w ≡ (x || y || z) → w ≡ mayApply (seen b own other p)
+    unfolding mayApply
+    may-told ex ey ez ew =
+        ew ∙ rw (
+          some-masks (seen b own other p Overlining) (seen-low b Overlining (omega arith)) (e .overlinings) ex,
+          more-masks (seen b own other p Sword) (seen-low b Sword (omega arith)) (e .swords) ey,
+          more-masks (seen b own other p Two) (seen-low b Two (omega arith)) (e .twos) ez,
+        )

@@ -1,6 +1,6 @@
 -- The rows through a point by the masks of its four lines, and the start masks that are handed on.
 use mathlib.Core.Path.{_≡_}
-use mathlib.Core.Bool.{Bool, _&&_}
+use mathlib.Core.Bool.{Bool, _&&_, _||_}
 use mathlib.Core.List.{List}
 use Prim.Native.Nat.{ℕ}
 use lib.Dec.{ltb}
@@ -9,6 +9,7 @@ use Rattle.rules.specs.Bit.{bit}
 use Rattle.rules.specs.Line.{Stones, rowAt, through}
 use Rattle.rules.specs.Point.{lineNo, cellNo, lineSize}
 use Rattle.rules.specs.Grid.{Starts, startMasks}
+use Rattle.rules.specs.Forbidden.{someRow, moreThanOne}
 use Rattle.rules.specs.declared.RowKind.{RowKind}
 use Rattle.rules.specs.declared.RowKind.the-variants.{Two, Sword, Four, Overlining}
 use Rattle.near.specs.declared.rows.Rows.{Rows}
@@ -28,3 +29,7 @@ pub record RowsAre (rows : RowKind → Starts) (r : Rows) : Type 0 where
   pub overlinings : r .overlinings ≡ startMasks (rows Overlining)
   pub swords : r .swords ≡ startMasks (rows Sword)
   pub twos : r .twos ≡ startMasks (rows Two)
+
+-- some kind may apply where Black's rows are these, by the tests of section 5 that need no nested question (mayForbid, of a board's rows)
+unfoldable pub mayApply : (RowKind → Starts) → Bool
+mayApply rows = someRow (rows Overlining) || moreThanOne (rows Sword) || moreThanOne (rows Two)

@@ -45,7 +45,7 @@ pub fn black_rows_near(blacks: [u16; 4], whites: [u16; 4], code: u8) -> Rows
 }
 
 // The rows that reach the point, of the windows that were scored.
-fn rows_from(scored: Windows, mine: u64, code: u8) -> Rows
+pub(crate) fn rows_from(scored: Windows, mine: u64, code: u8) -> Rows
     ensures { λ r. ⌜ (r .fours ≡ reaching 5 code (scored .fours))
         × (r .overlinings ≡ reaching 4 code (maskOf 64 (pairIn (scored .overs))))
         × (r .swords ≡ reaching 5 code (scored .threes))

@@ -48,7 +48,7 @@ stones-shown r cells m p d e hd t =
 -- the rows of either colour
 module _ (r : Player) (cells own other : List ℕ) (p : ℕ) (hp : p < 225) (eo : MasksOf r cells p own)
     (et : MasksOf (opponentOf r) cells p other) where
-  seen-rows : (kind : RowKind) (d j : ℕ) → d < 4 → seen (isBlack r) own other p kind d j ≡ rowsThrough r kind cells p d j
+  pub seen-rows : (kind : RowKind) (d j : ℕ) → d < 4 → seen (isBlack r) own other p kind d j ≡ rowsThrough r kind cells p d j
   unfolding seen rowsThrough rowOn
   seen-rows kind d j hd = go (decide (hasPlace d p))
     where

@@ -16,6 +16,5 @@ pub use front::forbidden_points_of;
 pub use front::forbidden_strict;
 pub use front::forbidden_strict_of;
 pub use front::is_double_three;
-pub use single::may_forbid;
 pub use thin::forbidden_strict_in;
 pub use thin::is_double_three_in;

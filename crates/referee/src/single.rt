@@ -74,7 +74,7 @@ pub(crate) fn lines_if(wanted: bool, cells: &[u8], table: &[u16; 900]) -> [u16; 
 
 // Whether some kind may apply, by the tests that need no nested question: where Black's rows through a point are these and none passes,
 // the verdict there is none.
-pub fn may_forbid(rows: Rows) -> bool
+pub(crate) fn may_forbid(rows: Rows) -> bool
     ensures { λ r. ⌜ r ≡ (someRow (startsOf (rows .overlinings)) || moreThanOne (startsOf (rows .swords))
         || moreThanOne (startsOf (rows .twos))) ⌝ }
 {
