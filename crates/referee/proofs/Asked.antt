@@ -44,8 +44,11 @@ taken-cell (suc (suc zero)) h n = refl
 taken-cell (suc (suc (suc v))) h n = absurd (omega arith)
 
 module _ (cells : List ℕ) (p : ℕ) (ok : Cells cells) (hp : p < 225) where
+  pub byte-full : (getD cells p 0 ≡ 0 → ⊥) → isEmpty (getD cells p 0) ≡ false
+  byte-full n = taken-cell (getD cells p 0) (ok .small p hp) n
+
   pub byte-taken : (getD cells p 0 ≡ 0 → ⊥) → None ≡ strictOf cells p
-  byte-taken n = strict-taken cells p (ok .long) hp (taken-cell (getD cells p 0) (ok .small p hp) n)
+  byte-taken n = strict-taken cells p (ok .long) hp (byte-full n)
 
   -- the verdict on the lines of the cells
   pub on-lines-of : {l : List ℕ} {v : Verdict} → l ≡ linesOf cells → v ≡ strictOf (cellsOf l) p → v ≡ strictOf cells p

@@ -10,6 +10,8 @@ pub mod Told
 pub mod Backward
 -- the strict question on sound lines: the cell at the point; the trial stone put and taken off
 pub mod Asked
+-- where a stone may be tried for a verdict: by the cell at the point, by the tests that need no trial, by the refusal
+pub mod Rulings
 -- where the sweep has no mark the verdict is none: whole columns may be passed over
 pub mod Swept
 -- the refusals of a question on a board: what none says, and each by its tests

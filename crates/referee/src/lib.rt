@@ -7,6 +7,7 @@ mod known;
 mod list;
 mod on_lines;
 mod rows;
+mod ruling;
 mod single;
 mod thin;
 
@@ -16,5 +17,7 @@ pub use front::forbidden_points_of;
 pub use front::forbidden_strict;
 pub use front::forbidden_strict_of;
 pub use front::is_double_three;
+pub use ruling::Ruling;
+pub use ruling::ruling_of;
 pub use thin::forbidden_strict_in;
 pub use thin::is_double_three_in;

@@ -3,6 +3,7 @@
 //! in its example `frame`.
 
 pub mod curves;
+pub mod depths;
 #[path = "../../renju/examples/frame/frames.rs"]
 pub mod frames;
 pub mod games;

@@ -1,13 +1,14 @@
 //! Times the original and the host interface on the same boards, then the second referee beside the
-//! fast one: `bench [SEED] [quick] [--markdown]`.
+//! fast one, then the depth of a question beside its verdict: `bench [SEED] [quick] [--markdown]`.
 //!
 //! Exit status 1 if any answer differs, 2 for an argument that is not understood.
 
 use std::env;
 use std::process::ExitCode;
 
-use runs::timing::suite::{self, SEED, Settings};
-use runs::timing::{machine, table};
+use runs::timing::suite::{self, Difference, SEED, Settings};
+use runs::timing::table::{self, Row};
+use runs::timing::machine;
 
 /// What the arguments ask for.
 struct Asked {
@@ -22,11 +23,9 @@ fn main() -> ExitCode {
     };
     print!("{}", conditions(&asked.settings));
     // Rows come slowly; who waits sees on the error stream that something happens.
-    let report = |row: &table::Row| eprintln!("timed: {}, {}", row.question, row.boards);
-    let both = suite::run(&asked.settings, report)
-        .and_then(|rows| Ok((rows, suite::run_second(&asked.settings, report)?)));
-    match both {
-        Ok((rows, second)) => {
+    let report = |row: &Row| eprintln!("timed: {}, {}", row.question, row.boards);
+    match timed(&asked.settings, report) {
+        Ok([rows, second, depths]) => {
             let write = if asked.markdown {
                 table::markdown
             } else {
@@ -34,6 +33,7 @@ fn main() -> ExitCode {
             };
             println!("\n{}", write(&rows, ["original", "ours"]));
             println!("{}", write(&second, ["second", "fast"]));
+            println!("{}", write(&depths, ["depth", "verdict"]));
             println!("{}", table::LEGEND);
             ExitCode::SUCCESS
         }
@@ -42,6 +42,15 @@ fn main() -> ExitCode {
             ExitCode::FAILURE
         }
     }
+}
+
+/// The rows of the three tables, in their order.
+fn timed(settings: &Settings, report: fn(&Row)) -> Result<[Vec<Row>; 3], Difference> {
+    Ok([
+        suite::run(settings, report)?,
+        suite::run_second(settings, report)?,
+        suite::run_depths(settings, report)?,
+    ])
 }
 
 /// A number is the seed; the two words may stand anywhere.
@@ -102,6 +111,8 @@ fn conditions(settings: &Settings) -> String {
 - Second: the second referee beside the fast one, host calls both, on the first {second} boards of
   each set: the list, and the strict verdict at every empty point. {slow_rounds} rounds after
   {slow_warm_up} of warm-up.
+- Depth: the depth with its verdict beside the verdict alone, host calls both, at every empty point
+  of all nested boards, in as many rounds. The ratio says how many times as long the depth takes.
 - Answers: all compared, before the timed rounds and after them.
 "
     )

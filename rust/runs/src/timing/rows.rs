@@ -97,10 +97,10 @@ impl Race for Lists<'_> {
 }
 
 /// A board by number, and an empty point of it.
-type Place = (usize, u8);
+pub(super) type Place = (usize, u8);
 
 /// Every empty point of every board.
-fn places(boards: &[Ready]) -> Vec<Place> {
+pub(super) fn places(boards: &[Ready]) -> Vec<Place> {
     let of = |(n, board): (usize, &Ready)| board.empty().map(|code| (n, code)).collect::<Vec<_>>();
     boards.iter().enumerate().flat_map(of).collect()
 }

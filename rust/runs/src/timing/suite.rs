@@ -2,6 +2,7 @@
 
 use std::fmt;
 
+use super::depths::Depths;
 use super::games::{self, Games};
 use super::race::{self, Pace, Race};
 use super::rows::{Changes, Form, Lists, Other, Texts, Turns, Verdicts, Written};
@@ -195,6 +196,20 @@ pub fn run_second(settings: &Settings, report: impl FnMut(&Row)) -> Result<Vec<R
         report,
     };
     table.add_verdicts(&made, settings.second, Other::Second)?;
+    Ok(table.rows)
+}
+
+/// The depth against the verdict that it holds, at every empty point of the nested boards: how many
+/// times as long it takes is the ratio.
+pub fn run_depths(settings: &Settings, report: impl FnMut(&Row)) -> Result<Vec<Row>, Difference> {
+    let set = sets::nested(settings.seed, settings.nested);
+    let mut table = Growing {
+        pace: settings.second_pace,
+        rows: Vec::new(),
+        report,
+    };
+    let mut depths = Depths::new(&set.boards);
+    table.add("depth and verdict", &set.name, &mut depths)?;
     Ok(table.rows)
 }
 

@@ -1,37 +1,19 @@
--- `renju::depths::renju_depth` meets its contract: both are refused alike, and both are of the cells. Assumes nothing.
-use mathlib.Core.Path.{_∙_, ap, ap₂}
+-- `renju::depths::renju_depth` meets its contract: depth and verdict of the cells as one number. Assumes nothing.
+use mathlib.Core.Path.{_∙_, ap}
 use borrow.Author.Needs.{needs}
-use Rattle.renju.specs.Depths.{verdictByte, depthWord}
+use Rattle.renju.specs.Depths.{depthWord}
 use Rattle.renju.proofs.Paired.{depth-word}
 use Rattle.renju.proofs.depths.renju_depth.Statement.{statement}
 use Rattle.renju.proofs.depths.renju_depth.Tie as tie
 
-forbidden-strict-of-requires : tie.Need-forbidden-strict-of-requires
-forbidden-strict-of-requires c κs = search needs
-
-verdict-byte-requires : tie.Need-verdict-byte-requires
-verdict-byte-requires c κs = search needs
-
-depth-of-requires : tie.Need-depth-of-requires
-depth-of-requires c κs = search needs
+strict-depth-of-requires : tie.Need-strict-depth-of-requires
+strict-depth-of-requires c κs = search needs
 
 depth-word-requires : tie.Need-depth-word-requires
 depth-word-requires c κs = search needs
 
 returns : tie.Need-returns
-returns c =
-    let d = c .before in
-    let v = d .before in
-    c .depth-word .ensures
-    ∙ ap₂ depthWord (d .depth-of .ensures) (v .verdict-byte .ensures ∙ ap verdictByte (v .before .forbidden-strict-of .ensures))
-    ∙ depth-word _ _ _
+returns c = c .depth-word .ensures ∙ ap depthWord (c .before .strict-depth-of .ensures) ∙ depth-word _ _ _
 
 pub renju-depth-spec : {M : Type 1} → statement M
-renju-depth-spec =
-    tie.close
-    (tie.spec
-    forbidden-strict-of-requires
-    verdict-byte-requires
-    depth-of-requires
-    depth-word-requires
-    returns)
+renju-depth-spec = tie.close (tie.spec strict-depth-of-requires depth-word-requires returns)
