@@ -19,7 +19,7 @@ use Rattle.rules.specs.declared.answer.VerdictAnswer.{VerdictAnswer}
 use Rattle.rules.specs.declared.answer.VerdictAnswer.the-variants as verdict
 use Rattle.rules.proofs.Depth.{depth-taken, depth-one}
 use Rattle.cells.specs.Cells.{Cells}
-use Rattle.referee.specs.Answers.{mayTry}
+use Rattle.referee.specs.Answers.{isTried}
 use Rattle.depth.specs.Answers.{depthAnswer}
 use Rattle.depth.specs.declared.front.DepthAnswer.{DepthAnswer}
 use Rattle.depth.specs.declared.front.DepthAnswer.the-variants as answer
@@ -109,8 +109,8 @@ few-twos cells p m = rw m (go (not (completesFive cells p)) (not (isOverline cel
     go true false c = refl
     go false b c = refl
 
-pub shallow : (cells : List ℕ) (p : ℕ) → Cells cells → p < 225 → mayTry cells p ≡ false → digit (eqb (getD cells p 0) 0) ≡ depthOf cells p
-unfolding mayTry
+pub shallow : (cells : List ℕ) (p : ℕ) → Cells cells → p < 225 → isTried cells p ≡ false → digit (eqb (getD cells p 0) 0) ≡ depthOf cells p
+unfolding isTried
 shallow cells p ok hp n = ap digit (sym (empty-byte (getD cells p 0) (ok .small p hp))) ∙ go (isEmpty (getD cells p 0)) refl n
   where
     go : (e : Bool) → isEmpty (getD cells p 0) ≡ e → (e && moreTwos cells p) ≡ false → digit e ≡ depthOf cells p

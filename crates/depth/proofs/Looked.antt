@@ -8,43 +8,31 @@ use native.Mathlib.Omega.{arith}
 use lib.Dec.{T}
 use lib.ListN.{getD}
 use Rattle.rules.specs.Bit.{bit}
-use Rattle.rules.specs.Line.{Stones}
 use Rattle.rules.specs.Point.{lineNo, pointAt}
-use Rattle.rules.specs.Grid.{isEmpty, stoneAt, startsOf, nextFrom, rowsThrough}
+use Rattle.rules.specs.Grid.{isEmpty, startsOf, nextFrom, rowsThrough}
 use Rattle.rules.specs.Forbidden.{Ask, someRow, moreThanOne, blackRows, completesFive, gapFrom, eyeOf}
 use Rattle.rules.specs.Depth.{greatest, asksNested, eyeDepth, depthOf}
 use Rattle.rules.specs.declared.Player.the-variants.{Black}
 use Rattle.rules.specs.declared.RowKind.the-variants.{Three}
-use Rattle.rules.proofs.Logic.{true-T}
 use Rattle.rules.proofs.Starts.{five-is, overline-is, double-four-is, twos-are}
 use Rattle.rules.proofs.Numbered.{next-ge}
 use Rattle.rules.proofs.Gap.{eye-lt}
 use Rattle.rules.proofs.Depth.{deepestBelow, nested-told}
-use Rattle.point.specs.Places.{addresses}
+use Rattle.point.specs.Places.{placeOf}
+use Rattle.point.specs.declared.place.Place.{Place}
 use Rattle.near.specs.Rows.{RowsAre}
 use Rattle.near.specs.declared.rows.Rows.{Rows}
-use Rattle.grid.specs.Lines.{cellsOf, Sound, masksBy}
-use Rattle.grid.proofs.Lines.{stone-bits}
-use Rattle.grid.proofs.Placed.{masks-by}
-use Rattle.grid.proofs.ThroughPoint.{mask-through}
-use Rattle.referee.proofs.EyeFound.{has-line}
+use Rattle.grid.specs.Lines.{cellsOf, Sound, maskOn}
+use Rattle.referee.proofs.EyeFound.{gap-is}
 
--- ---- the eye, by the masks of the lines through the point
+-- ---- the eye, by the mask of the line at an address
 
-module _ (l table : List ℕ) (p d j : ℕ) (s : Sound l) (hp : p < 225) (hd : d < 4) (t : T (rowsThrough Black Three (cellsOf l) p d j))
-    (et : table ≡ addresses) {m : List ℕ} {gap i q : ℕ} (em : m ≡ masksBy l table p Black) (eg : gap ≡ gapFrom (bit (getD m d 0)) j)
-    (ei : i ≡ lineNo d p) (eq : q ≡ pointAt d i gap) where
-  gap-is : gap ≡ gapFrom (stoneAt Black (cellsOf l) d (lineNo d p)) j
-  gap-is =
-      eg
-      ∙ ap (λ (f : Stones). gapFrom f j)
-      (ap bit (ap (λ (x : List ℕ). getD x d 0) (em ∙ masks-by l table p Black et)
-      ∙ mask-through l p Black d s hp hd (true-T (has-line l p d j s hp hd t)))
-      ∙ stone-bits Black (cellsOf l) d (lineNo d p))
-
+module _ (l : List ℕ) (p d j : ℕ) (s : Sound l) (hp : p < 225) (hd : d < 4) (t : T (rowsThrough Black Three (cellsOf l) p d j)) {a : Place}
+    {m gap i q : ℕ} (ea : a ≡ placeOf d p) (em : m ≡ maskOn Black l (a .key)) (eg : gap ≡ gapFrom (bit m) j) (ei : i ≡ lineNo d p)
+    (eq : q ≡ pointAt d i gap) where
   pub eye-seen : q ≡ eyeOf (cellsOf l) p d j
   unfolding eyeOf
-  eye-seen = eq ∙ rw (ei, gap-is) refl
+  eye-seen = eq ∙ rw (ei, gap-is l p d j s hp hd t ea em eg) refl
 
   pub eye-byte : q < 256
   eye-byte = let e = eye-seen in let h = eye-lt (cellsOf l) p d j hp hd t in omega arith

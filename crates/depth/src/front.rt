@@ -19,7 +19,7 @@ ghost use Rattle.lent.specs.Lists.{zeros};
 ghost use Rattle.grid.specs.Lines.{linesOf};
 ghost use Rattle.cells.specs.Cells.{Cells, cellsRefusalAt};
 ghost use Rattle.board.specs.Boards.{cells, refusalAt};
-ghost use Rattle.referee.specs.Answers.{mayTry};
+ghost use Rattle.referee.specs.Answers.{isTried};
 ghost use Rattle.depth.specs.Answers.{depthAnswer};
 
 // A depth with the strict verdict, or the refusal.
@@ -67,7 +67,7 @@ pub fn strict_depth_of(cells: &[u8], code: u8) -> DepthAnswer
 
 // Where no stone may be tried not more than one Two goes through the point, so that nothing nested is asked.
 fn ruled_depth(cells: &[u8], code: u8, ruling: Ruling) -> u8
-    requires { ⌜ Cells (now cells) × (code < 225) × (ruling .tried ≡ mayTry (now cells) code)
+    requires { ⌜ Cells (now cells) × (code < 225) × (ruling .tried ≡ isTried (now cells) code)
         × (ruling .lines ≡ cond (ruling .tried) (linesOf (now cells)) (zeros 144)) ⌝ }
     ensures { λ r. ⌜ r ≡ depthOf (now (cells .entry)) code ⌝ }
 {

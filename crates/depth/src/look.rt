@@ -1,10 +1,12 @@
 // What one question looks at on the lines: Black's rows through a point, whether they lead to nested questions, and the eye of a Three.
-use grid::masks_by;
+use grid::mask_on;
+use grid::stones_by;
 use near::Rows;
 use near::first_gap;
 use near::more_than_one;
 use near::rows_near;
 use near::some_row;
+use point::address_by;
 use point::line_no;
 use point::point_at;
 use rules::Player;
@@ -26,8 +28,9 @@ pub(crate) fn rows_at(lines: &[u16; 144], table: &[u16; 900], code: u8) -> Rows
     requires { ⌜ Sound (now lines) × (code < 225) × (now table ≡ addresses) ⌝ }
     ensures { λ r. ⌜ RowsAre (blackRows (cellsOf (now (lines .entry))) code) r ⌝ }
 {
-    let blacks = masks_by(lines, table, code, Player::Black);
-    let whites = masks_by(lines, table, code, Player::White);
+    let stones = stones_by(lines, table, code, Player::Black);
+    let blacks = stones.own;
+    let whites = stones.other;
     rows_near(blacks, whites, code, true)
 }
 
@@ -60,8 +63,8 @@ pub(crate) fn eye_at(lines: &[u16; 144], table: &[u16; 900], code: u8, three: u8
     ensures { λ r. ⌜ r ≡ eyeOf (cellsOf (now (lines .entry))) code (three / 16) (three % 16) ⌝ }
 {
     let d = three / 16;
-    let blacks = masks_by(lines, table, code, Player::Black);
-    let gap = first_gap(blacks[d as usize], three % 16);
+    let here = address_by(table, d, code);
+    let gap = first_gap(mask_on(lines, here.key, Player::Black), three % 16);
     point_at(d, line_no(d, code), gap) as u8
 }
 

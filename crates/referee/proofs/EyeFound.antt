@@ -41,8 +41,7 @@ module _ (l : List ℕ) (p d j : ℕ) (s : Sound l) (hp : p < 225) (hd : d < 4) 
       go (inl e) = e
       go (inr e) = absurd (subst T (none-short Black Three (cellsOf l) p d hd hp e j) t)
 
-  module _ {a : Place} {m gap step : ℕ} (ea : a ≡ placeOf d p) (em : m ≡ maskOn Black l (a .key)) (eg : gap ≡ gapFrom (bit m) j)
-      (et : step ≡ stepOf d) where
+  module _ {a : Place} {m gap : ℕ} (ea : a ≡ placeOf d p) (em : m ≡ maskOn Black l (a .key)) (eg : gap ≡ gapFrom (bit m) j) where
     cell-is : a .cell ≡ cellNo d p
     unfolding placeOf
     cell-is = ap (λ (x : Place). x .cell) ea ∙ rw has-line
@@ -53,27 +52,28 @@ module _ (l : List ℕ) (p d j : ℕ) (s : Sound l) (hp : p < 225) (hd : d < 4) 
         let th = line-at d p hd (true-T has-line) in
         ap (λ (x : Place). maskOn Black l (x .key)) ea ∙ rw has-line (mask-sound Black l (keyAt d p) s (th .key) ∙ rw (th .dir, th .no))
 
-    gap-is : gap ≡ gapFrom (stoneAt Black (cellsOf l) d (lineNo d p)) j
+    pub gap-is : gap ≡ gapFrom (stoneAt Black (cellsOf l) d (lineNo d p)) j
     gap-is = eg ∙ ap (λ (f : Stones). gapFrom f j) (ap bit (em ∙ mask-is) ∙ stone-bits Black (cellsOf l) d (lineNo d p))
 
     on-line : gap < lineSize d (lineNo d p)
     on-line = rw gap-is (gap-inside (cellsOf l) p d j hp hd t)
 
-    -- from the point back to the line's first cell, and on to the gap
-    pub eye-found : p - a .cell * step + gap * step ≡ eyeOf (cellsOf l) p d j
-    unfolding eyeOf
-    eye-found =
-        rw (cell-is, et)
-        (ap (λ (x : ℕ). p - cellNo d p * stepOf d + x) (mul-comm gap (stepOf d)) ∙ step-at d p hd hp gap on-line
-        ∙ ap (pointAt d (lineNo d p)) gap-is)
+    module _ {step : ℕ} (et : step ≡ stepOf d) where
+      -- from the point back to the line's first cell, and on to the gap
+      pub eye-found : p - a .cell * step + gap * step ≡ eyeOf (cellsOf l) p d j
+      unfolding eyeOf
+      eye-found =
+          rw (cell-is, et)
+          (ap (λ (x : ℕ). p - cellNo d p * stepOf d + x) (mul-comm gap (stepOf d)) ∙ step-at d p hd hp gap on-line
+          ∙ ap (pointAt d (lineNo d p)) gap-is)
 
-    -- each of these numbers fits a byte
-    pub eye-steps : (a .cell * step ≤ p) × (gap * step ≤ 224) × (p - a .cell * step + gap * step < 225)
-    eye-steps = (
-      rw (cell-is, et) (step-back d p hd hp),
-      rw et (mul-le-mul {n₂ = 14} {m₂ = 16} (omega (arith, on-line, size-le d (lineNo d p))) (step-le d)),
-      rw eye-found (eye-lt (cellsOf l) p d j hp hd t),
-    )
+      -- each of these numbers fits a byte
+      pub eye-steps : (a .cell * step ≤ p) × (gap * step ≤ 224) × (p - a .cell * step + gap * step < 225)
+      eye-steps = (
+        rw (cell-is, et) (step-back d p hd hp),
+        rw et (mul-le-mul {n₂ = 14} {m₂ = 16} (omega (arith, on-line, size-le d (lineNo d p))) (step-le d)),
+        rw eye-found (eye-lt (cellsOf l) p d j hp hd t),
+      )
 
   pub eye-small : {r : ℕ} → r ≡ eyeOf (cellsOf l) p d j → r < 225
   eye-small e = rw e (eye-lt (cellsOf l) p d j hp hd t)

@@ -12,16 +12,16 @@ use Rattle.rules.proofs.Logic.{no-true}
 use Rattle.lent.specs.Lists.{zeros}
 use Rattle.grid.specs.Lines.{linesOf}
 use Rattle.cells.specs.Cells.{cellsRefusalAt}
-use Rattle.referee.specs.Answers.{mayTry, mayTryAt}
+use Rattle.referee.specs.Answers.{isTried, isTriedAt}
 
 module _ (cells : List ℕ) (p : ℕ) where
-  pub taken-untried : isEmpty (getD cells p 0) ≡ false → false ≡ mayTry cells p
-  unfolding mayTry
+  pub taken-untried : isEmpty (getD cells p 0) ≡ false → false ≡ isTried cells p
+  unfolding isTried
   taken-untried e = rw e refl
 
   -- where no kind may apply, not more than one Two goes through p
-  pub quiet-untried : mayForbid cells p ≡ false → false ≡ mayTry cells p
-  unfolding mayForbid mayTry
+  pub quiet-untried : mayForbid cells p ≡ false → false ≡ isTried cells p
+  unfolding mayForbid isTried
   quiet-untried q = go (isOverline cells p) (isDoubleFour cells p) (moreTwos cells p) (isEmpty (getD cells p 0)) q
     where
       go : (o f t e : Bool) → (o || f || t) ≡ false → false ≡ (e && t)
@@ -31,22 +31,22 @@ module _ (cells : List ℕ) (p : ℕ) where
       go false false false true q = refl
       go false false false false q = refl
 
-  pub free-tried : getD cells p 0 ≡ 0 → {b : Bool} → b ≡ moreTwos cells p → b ≡ mayTry cells p
-  unfolding mayTry
+  pub free-tried : getD cells p 0 ≡ 0 → {b : Bool} → b ≡ moreTwos cells p → b ≡ isTried cells p
+  unfolding isTried
   free-tried z e = e ∙ rw z refl
 
   -- with the refusal
   module _ {refused : ℕ} (r : refused ≡ cellsRefusalAt cells p) where
-    pub refused-untried : (refused ≡ 0 → ⊥) → false ≡ mayTryAt cells p
-    unfolding mayTryAt
+    pub refused-untried : (refused ≡ 0 → ⊥) → false ≡ isTriedAt cells p
+    unfolding isTriedAt
     refused-untried n = rw (ne-eqb (cellsRefusalAt cells p) 0 (λ z. n (r ∙ z))) refl
 
-    pub asked-tried : refused ≡ 0 → {b : Bool} → b ≡ mayTry cells p → b ≡ mayTryAt cells p
-    unfolding mayTryAt
+    pub asked-tried : refused ≡ 0 → {b : Bool} → b ≡ isTried cells p → b ≡ isTriedAt cells p
+    unfolding isTriedAt
     asked-tried z e = e ∙ rw (eq-eqb (cellsRefusalAt cells p) 0 (sym r ∙ z)) refl
 
-  pub tried-asked : cellsRefusalAt cells p ≡ 0 → {b : Bool} → b ≡ mayTryAt cells p → b ≡ mayTry cells p
-  unfolding mayTryAt
+  pub tried-asked : cellsRefusalAt cells p ≡ 0 → {b : Bool} → b ≡ isTriedAt cells p → b ≡ isTried cells p
+  unfolding isTriedAt
   tried-asked z e = e ∙ rw (eq-eqb (cellsRefusalAt cells p) 0 z) refl
 
 -- no lines are handed over where none is tried

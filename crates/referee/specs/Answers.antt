@@ -22,10 +22,10 @@ isYes (test.Refused n) = false
 unfoldable pub forbiddenRefusal : Board → ℕ → ℕ
 forbiddenRefusal b p = first (refusalAt b p) (unless (isEmpty (getD (cells b) p 0)) occupied)
 
--- a stone may be tried at p for the verdict there: p is empty, and more than one Two goes through it
-unfoldable pub mayTry : List ℕ → ℕ → Bool
-mayTry cells p = isEmpty (getD cells p 0) && moreTwos cells p
+-- a stone may have to be tried at p for the verdict there: p is empty, and more than one Two goes through it
+unfoldable pub isTried : List ℕ → ℕ → Bool
+isTried cells p = isEmpty (getD cells p 0) && moreTwos cells p
 
 -- .. where cells and point are not refused
-unfoldable pub mayTryAt : List ℕ → ℕ → Bool
-mayTryAt cells p = eqb (cellsRefusalAt cells p) 0 && mayTry cells p
+unfoldable pub isTriedAt : List ℕ → ℕ → Bool
+isTriedAt cells p = eqb (cellsRefusalAt cells p) 0 && isTried cells p

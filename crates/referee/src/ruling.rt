@@ -16,7 +16,7 @@ ghost use Rattle.rules.specs.Forbidden.{strictOf};
 ghost use Rattle.lent.specs.Lists.{zeros};
 ghost use Rattle.grid.specs.Lines.{linesOf};
 ghost use Rattle.cells.specs.Cells.{Cells, cellsRefusalAt};
-ghost use Rattle.referee.specs.Answers.{mayTry, mayTryAt};
+ghost use Rattle.referee.specs.Answers.{isTried, isTriedAt};
 
 // A verdict, and whether a stone may have been tried for it: then the stored lines are there, else zeros.
 pub struct Ruling {
@@ -28,7 +28,7 @@ pub struct Ruling {
 // .. at a point. The verdict alone is faster by `forbidden_strict_of`, which hands no lines over.
 pub fn ruling_of(cells: &[u8], code: u8) -> Ruling
     ensures { λ r. ⌜ (r .answer ≡ verdictAnswer (cellsRefusalAt (now (cells .entry)) code) (strictOf (now (cells .entry)) code))
-        × (r .tried ≡ mayTryAt (now (cells .entry)) code)
+        × (r .tried ≡ isTriedAt (now (cells .entry)) code)
         × (r .lines ≡ cond (r .tried) (linesOf (now (cells .entry))) (zeros 144)) ⌝ }
 {
     let refused = cells_refusal_at(cells, code);
@@ -42,7 +42,7 @@ pub fn ruling_of(cells: &[u8], code: u8) -> Ruling
 fn ruled_of(cells: &[u8], code: u8) -> Ruling
     requires { ⌜ Cells (now cells) × (code < 225) ⌝ }
     ensures { λ r. ⌜ (r .answer ≡ verdictAnswer 0 (strictOf (now (cells .entry)) code))
-        × (r .tried ≡ mayTry (now (cells .entry)) code)
+        × (r .tried ≡ isTried (now (cells .entry)) code)
         × (r .lines ≡ cond (r .tried) (linesOf (now (cells .entry))) (zeros 144)) ⌝ }
 {
     if cells[code as usize] != 0 {
@@ -55,7 +55,11 @@ fn ruled_of(cells: &[u8], code: u8) -> Ruling
         let tried = more_than_one(twos);
         let mut lines = lines_if(tried, cells, &table);
         let verdict = strict_by(&mut lines, &table, code, rows);
-        return Ruling { answer: VerdictAnswer::Is(verdict), tried, lines };
+        return Ruling {
+            answer: VerdictAnswer::Is(verdict),
+            tried,
+            lines,
+        };
     }
     untried(VerdictAnswer::Is(Verdict::None))
 }

@@ -286,7 +286,9 @@ fn a_quick_run_agrees() {
     assert_eq!((rows.len(), told), (24, 24));
     let second = suite::run_second(&settings, |_| told += 1).expect("the answers agree");
     assert_eq!((second.len(), told), (10, 34));
-    for row in rows.iter().chain(&second) {
+    let depths = suite::run_depths(&settings, |_| told += 1).expect("the answers agree");
+    assert_eq!((depths.len(), told), (1, 35));
+    for row in rows.iter().chain(&second).chain(&depths) {
         let name = format!("{} {}", row.question, row.boards);
         assert!(
             row.asked > 0 && row.other.p50 > 0.0 && row.ours.p50 > 0.0,
@@ -317,8 +319,8 @@ fn the_program_prints_a_table() {
     assert!(run.status.success(), "{text}");
     assert!(text.contains("- Seed: 7.\n"), "{text}");
     let table: Vec<&str> = text.lines().filter(|l| l.starts_with('|')).collect();
-    // Two heads, each with a rule below it: the original's rows, and the second referee's.
-    assert_eq!(table.len(), 2 + 24 + 2 + 10, "{text}");
+    // Three heads, each with a rule below it: the original's rows, the second referee's, the depth's.
+    assert_eq!(table.len(), 2 + 24 + 2 + 10 + 2 + 1, "{text}");
     assert!(table.iter().all(|l| l.matches('|').count() == 12), "{text}");
     assert_eq!(bench(&["soon"]).status.code(), Some(2));
 }

@@ -6,9 +6,9 @@
 use std::env;
 use std::process::ExitCode;
 
+use runs::timing::machine;
 use runs::timing::suite::{self, Difference, SEED, Settings};
 use runs::timing::table::{self, Row};
-use runs::timing::machine;
 
 /// What the arguments ask for.
 struct Asked {

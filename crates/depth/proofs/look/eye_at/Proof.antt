@@ -2,21 +2,16 @@
 use Prim.Native.Nat.{_/_, _%_}
 use native.Mathlib.Omega.{arith}
 use borrow.Author.Needs.{needs}
+use Rattle.grid.proofs.Placed.{by-addresses}
 use Rattle.depth.proofs.Looked.{eye-seen, eye-byte}
 use Rattle.depth.proofs.look.eye_at.Statement.{statement}
 use Rattle.depth.proofs.look.eye_at.Tie as tie
 
-masks-by-requires : tie.Need-masks-by-requires
-masks-by-requires c κs = search needs
+address-by-requires : tie.Need-address-by-requires
+address-by-requires c κs = search needs
 
-cast-first-gap : tie.Need-cast-first-gap
-cast-first-gap c = search needs
-
-mul-first-gap : tie.Need-mul-first-gap
-mul-first-gap c = search needs
-
-array-read-first-gap : tie.Need-array-read-first-gap
-array-read-first-gap c = search needs
+mask-on-requires : tie.Need-mask-on-requires
+mask-on-requires c κs = search needs
 
 first-gap-requires : tie.Need-first-gap-requires
 first-gap-requires c κs = search needs
@@ -32,9 +27,11 @@ cast-result c =
     let i = c .before in
     let g = i .before in
     let m = g .before in
-    let s = m .before in
-    let h = eye-byte (s .args .lines .now) (s .args .table .now) (s .args .code) (s .args .three / 16) (s .args .three % 16) (s .pre .0) (s .pre .1)
-    (omega (arith, s .pre .2)) (s .pre .3) (s .pre .4) (m .masks-by .ensures) (g .first-gap .ensures) (i .line-no .ensures)
+    let a = m .before in
+    let s = a .before in
+    let d = s .args .three / 16 in
+    let h = eye-byte (s .args .lines .now) (s .args .code) d (s .args .three % 16) (s .pre .0) (s .pre .1) (omega (arith, s .pre .2)) (s .pre .3)
+    (by-addresses d (s .args .code) (a .address-by .ensures) (s .pre .4)) (m .mask-on .ensures) (g .first-gap .ensures) (i .line-no .ensures)
     (c .point-at .ensures) in
     omega arith
 
@@ -43,19 +40,19 @@ returns c =
     let i = c .before in
     let g = i .before in
     let m = g .before in
-    let s = m .before in
-    eye-seen (s .args .lines .now) (s .args .table .now) (s .args .code) (s .args .three / 16) (s .args .three % 16) (s .pre .0) (s .pre .1)
-    (omega (arith, s .pre .2)) (s .pre .3) (s .pre .4) (m .masks-by .ensures) (g .first-gap .ensures) (i .line-no .ensures)
+    let a = m .before in
+    let s = a .before in
+    let d = s .args .three / 16 in
+    eye-seen (s .args .lines .now) (s .args .code) d (s .args .three % 16) (s .pre .0) (s .pre .1) (omega (arith, s .pre .2)) (s .pre .3)
+    (by-addresses d (s .args .code) (a .address-by .ensures) (s .pre .4)) (m .mask-on .ensures) (g .first-gap .ensures) (i .line-no .ensures)
     (c .point-at .ensures)
 
 pub eye-at-spec : {M : Type 1} → statement M
 eye-at-spec =
     tie.close
     (tie.spec
-    masks-by-requires
-    cast-first-gap
-    mul-first-gap
-    array-read-first-gap
+    address-by-requires
+    mask-on-requires
     first-gap-requires
     line-no-requires
     point-at-requires

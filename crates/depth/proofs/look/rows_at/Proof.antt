@@ -9,29 +9,24 @@ use Rattle.referee.proofs.RowsSeen.{rows-seen, masks-sound}
 use Rattle.depth.proofs.look.rows_at.Statement.{statement}
 use Rattle.depth.proofs.look.rows_at.Tie as tie
 
-masks-by-requires : tie.Need-masks-by-requires
-masks-by-requires c κs = search needs
-
-masks-by-requires-2 : tie.Need-masks-by-requires-2
-masks-by-requires-2 c κs = search needs
+stones-by-requires : tie.Need-stones-by-requires
+stones-by-requires c κs = search needs
 
 rows-near-requires : tie.Need-rows-near-requires
 rows-near-requires c κs = search needs
 
 returns : tie.Need-returns
 returns c =
-    let w = c .before in
-    let b = w .before in
+    let b = c .before .before .before in
     let s = b .before in
     let l = s .args .lines .now in
     let p = s .args .code in
     rows-seen Black (cellsOf l) _ _ p (s .pre .1)
-    (subst (MasksOf Black (cellsOf l) p) (sym (b .masks-by .ensures ∙ masks-by l _ p Black (s .pre .2)))
+    (subst (MasksOf Black (cellsOf l) p) (sym (b .stones-by .ensures .0 ∙ masks-by l _ p Black (s .pre .2)))
     (masks-sound Black l p (s .pre .0) (s .pre .1)))
-    (subst (MasksOf White (cellsOf l) p) (sym (w .masks-by2 .ensures ∙ masks-by l _ p White (s .pre .2)))
+    (subst (MasksOf White (cellsOf l) p) (sym (b .stones-by .ensures .1 ∙ masks-by l _ p White (s .pre .2)))
     (masks-sound White l p (s .pre .0) (s .pre .1)))
     (c .rows-near .ensures)
 
 pub rows-at-spec : {M : Type 1} → statement M
-rows-at-spec =
-    tie.close (tie.spec masks-by-requires masks-by-requires-2 rows-near-requires returns)
+rows-at-spec = tie.close (tie.spec stones-by-requires rows-near-requires returns)

@@ -1,4 +1,5 @@
 -- `renju::depths::depth_word` meets its contract: its arms are the cases of the definition. Assumes nothing.
+use mathlib.Core.Path.{_∙_}
 use borrow.Author.Needs.{needs}
 use Rattle.renju.specs.Depths.{depthWord}
 use Rattle.renju.proofs.depths.depth_word.Statement.{statement}
@@ -12,6 +13,12 @@ cast-word c = search needs
 
 mul-word : tie.Need-mul-word
 mul-word c = search needs
+
+number-requires : tie.Need-number-requires
+number-requires c κs = search needs
+
+cast-word-2 : tie.Need-cast-word-2
+cast-word-2 c = search needs
 
 add-word : tie.Need-add-word
 add-word c = search needs
@@ -27,7 +34,10 @@ word-requires-2 c κs = search needs
 
 returns : tie.Need-returns
 unfolding depthWord
-returns c = rw (c .before .before .answer .given .1) (c .word .ensures)
+returns c =
+    let n = c .before in
+    let a = n .before .before in
+    rw (a .answer .given .1) (c .word .ensures ∙ rw (n .number .ensures))
 
 returns-2 : tie.Need-returns-2
 unfolding depthWord
@@ -40,6 +50,8 @@ depth-word-spec =
     enum-known-answer
     cast-word
     mul-word
+    number-requires
+    cast-word-2
     add-word
     word-requires
     enum-known-answer-2
