@@ -1,5 +1,6 @@
 //! Asks each question of the benchmark once, of the original or of the host interface, for a
-//! counter of instructions to follow: `once list|strict 8|20|40|80|nested original|ours`.
+//! counter of instructions to follow: `once list|strict 8|20|40|80|nested original|ours`, or
+//! `once game 20|60|120|225 original|ours`.
 //!
 //! `valgrind --tool=callgrind --toggle-collect='once::asked' once list 40 ours`, then the total over
 //! the number of questions that it prints. Exit status 2 for an argument that is not understood.
@@ -7,6 +8,7 @@
 use std::env;
 use std::process::ExitCode;
 
+use runs::timing::games::{self, Games};
 use runs::timing::race::Race;
 use runs::timing::rows::{Lists, Other, Verdicts};
 use runs::timing::sets::{self, Set};
@@ -28,23 +30,34 @@ fn main() -> ExitCode {
         return usage();
     };
     let settings = Settings::usual(SEED);
-    let Some(mut set) = set_of(set, &settings) else {
-        return usage();
-    };
     let asked = match question {
-        "list" => asked(&mut Lists::new(&set.boards, Other::Original), side),
-        "strict" => {
-            set.boards.truncate(settings.by_point);
-            asked(&mut Verdicts::new(&set.boards, Other::Original), side)
-        }
-        _ => return usage(),
+        "game" => games_of(set, &settings).map(|mut games| asked(&mut games, side)),
+        _ => of_boards(question, set, side, &settings),
+    };
+    let Some(asked) = asked else {
+        return usage();
     };
     println!("{asked} questions");
     ExitCode::SUCCESS
 }
 
+/// Asks about the boards of a set; none for a word that is not understood.
+fn of_boards(question: &str, set: &str, side: Side, settings: &Settings) -> Option<usize> {
+    let mut set = set_of(set, settings)?;
+    match question {
+        "list" => Some(asked(&mut Lists::new(&set.boards, Other::Original), side)),
+        "strict" => {
+            set.boards.truncate(settings.by_point);
+            let mut verdicts = Verdicts::new(&set.boards, Other::Original);
+            Some(asked(&mut verdicts, side))
+        }
+        _ => None,
+    }
+}
+
 fn usage() -> ExitCode {
     eprintln!("usage: once list|strict 8|20|40|80|nested original|ours");
+    eprintln!("       once game 20|60|120|225 original|ours");
     ExitCode::from(2)
 }
 
@@ -64,6 +77,13 @@ fn set_of(word: &str, settings: &Settings) -> Option<Set> {
     let stones = word.parse().ok()?;
     let known = sets::STONES.contains(&stones);
     known.then(|| sets::games(settings.seed, stones, settings.games))
+}
+
+/// The games of the benchmark's row.
+fn games_of(word: &str, settings: &Settings) -> Option<Games> {
+    let length = word.parse().ok()?;
+    let known = games::LENGTHS.contains(&length);
+    known.then(|| Games::new(games::games(settings.seed, length, settings.played)))
 }
 
 /// What the counter follows: each question once.
