@@ -1,6 +1,6 @@
 //! Times, taken side by side: the original and the host interface on the same boards in one run,
-//! the second referee beside the fast one. The frame loop and the percentiles are the package's own,
-//! in its example `frame`.
+//! the second referee beside the fast one, the depth of a question beside its verdict. The frame loop
+//! and the percentiles are the package's own, in its example `frame`.
 
 pub mod curves;
 pub mod depths;

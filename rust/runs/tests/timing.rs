@@ -6,6 +6,7 @@ use std::time::{Duration, Instant};
 use oracle::boards::{self, Dice};
 use oracle::naive;
 use runs::reading::{read, read_held};
+use runs::timing::depths::Depths;
 use runs::timing::games::{self, Games};
 use runs::timing::race::{self, Pace, Race, Times};
 use runs::timing::rows::{Changes, Form, Lists, Other, Texts, Turns, Verdicts, Written};
@@ -211,6 +212,11 @@ fn every_kind_of_question_sees_a_difference() {
     // The second referee is asked about the same cells as the fast one: there is no difference.
     assert_eq!(first(&mut Lists::new(&bad, Other::Second)), None);
     assert_eq!(first(&mut Verdicts::new(&bad, Other::Second)), None);
+    // So are the depth and the verdict; cells that are refused have neither.
+    assert_eq!(first(&mut Depths::new(&bad)), None);
+    let mut refused = good[0].clone();
+    refused.cells[224] = 3;
+    assert_eq!(first(&mut Depths::new(&[refused])), Some(0));
     for form in Form::ALL {
         assert_eq!(first(&mut Changes::new(good.to_vec(), form)), None);
         assert_eq!(first(&mut Changes::new(bad.to_vec(), form)), Some(0));

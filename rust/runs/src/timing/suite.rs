@@ -1,4 +1,4 @@
-//! The whole run: the board sets, and every row of the two tables.
+//! The whole run: the board sets, and every row of the three tables.
 
 use std::fmt;
 

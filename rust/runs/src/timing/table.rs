@@ -82,9 +82,10 @@ fn head([other, ours]: Sides) -> [String; COLUMNS] {
 pub const LEGEND: &str = "\
 Times are ns for one call: the fastest of the rounds for each question, then p50 and p99 over the
 questions. `asked` is how many questions, `calls` how many calls one sample holds. The ratios are
-original / ours and second / fast, of the p50s, of the p99s and of the sums over all questions;
-over 1, ours is faster, and so many times slower is the second referee than the fast one. `Board`
-is the original's board that also keeps a hash, `Grid` the one without; the port has no hash.
+original / ours, second / fast and depth / verdict, of the p50s, of the p99s and of the sums over all
+questions; over 1, ours is faster, and so many times slower is the second referee than the fast one,
+and a depth with its verdict than the verdict alone. `Board` is the original's board that also keeps
+a hash, `Grid` the one without; the port has no hash.
 ";
 
 /// Short times with a decimal, for there it matters.
