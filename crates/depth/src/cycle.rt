@@ -52,7 +52,7 @@ fn depth_by(lines: &mut [u16; 144], table: &[u16; 900], code: u8, rows: Rows) ->
 }
 
 // "on the board with the stone": it is put, the eyes are asked about, and it is taken off. The Twos through the point are then the Threes.
-// (By `mark_by`: were `add_by` and `lift_by` called from here too, they would no longer be compiled into the referee's cycle.)
+// (By `mark_by`: were `lift_by` called from here too, it would no longer be compiled into the referee's cycle.)
 fn trial_depth(lines: &mut [u16; 144], table: &[u16; 900], code: u8, twos: [u16; 4]) -> u8
     requires { ⌜ (code < 225) × Triable (now lines) code twos × (now table ≡ addresses) ⌝ }
     ensures { λ r. ⌜ (r ≡ deepest depthOf (withBlack (cellsOf (now (lines .entry))) code) code)

@@ -51,8 +51,7 @@ pub fn depth_of(cells: &[u8], code: u8) -> NumberAnswer
     }
 }
 
-// .. with the verdict of the referee, who has tested the cells, read the point's lines and built those that a trial needs: nothing of that is
-// done again.
+// .. with the verdict of the referee, who has tested the cells and built the lines that a trial needs: neither is done again.
 pub fn strict_depth_of(cells: &[u8], code: u8) -> DepthAnswer
     ensures { λ r. ⌜ r ≡ depthAnswer (cellsRefusalAt (now (cells .entry)) code) (depthOf (now (cells .entry)) code)
         (strictOf (now (cells .entry)) code) ⌝ }

@@ -1,5 +1,5 @@
-// One move on the lines of the board before it: why it is faulty, if it is, and whether it makes a five. Both are told by one glance at
-// the rows through its point.
+// One move on the lines of the board before it: why it is faulty, if it is, and whether it makes a five. Its cell tells whether the
+// point is occupied, a glance at the rows through it the rest; only where some kind may apply is the referee asked.
 use super::report::Reason;
 use super::report::Winner;
 use grid::add_by;

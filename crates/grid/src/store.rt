@@ -79,8 +79,8 @@ pub fn lift_by(lines: &mut [u16; 144], table: &[u16; 900], code: u8, player: Pla
     mark_along(lines, table, 3, code, player, false);
 }
 
-// The player's stone put on its four lines, or lifted from them: for crates that search on boards of their own. `add_by` and `lift_by` are for
-// the referee's cycle, and are compiled into it as long as no other search calls them.
+// The player's stone put on its four lines, or lifted from them: for crates that search on boards of their own. `lift_by` is for
+// the referee's cycle, and is compiled into it as long as no other search calls it.
 pub fn mark_by(lines: &mut [u16; 144], table: &[u16; 900], code: u8, player: Player, on: bool)
     ensures { λ _. ⌜ now (lines .exit) ≡ markBy (now (lines .entry)) (now (table .entry)) code player on ⌝ }
 {

@@ -1,4 +1,4 @@
-//! Numbers that look like chance, the same for the same seed everywhere: the poor line's, and the tests'.
+//! Numbers that look like chance, the same for the same seed everywhere: the poor line's, the tests' and the tool's.
 
 /// Splitmix64.
 pub struct Dice(u64);
