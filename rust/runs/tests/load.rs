@@ -207,6 +207,13 @@ fn the_programs_run_on_little() {
         let picture = std::fs::read_to_string(file).expect("a picture");
         assert_eq!(picture.matches("<polyline ").count(), 2 * charts);
     }
+    let run = ran(load, &["0.1", "--most", "2", "--boards", "nested"]);
+    let text = String::from_utf8_lossy(&run.stdout);
+    assert!(
+        text.contains("ours, nested") && !text.contains("games"),
+        "{text}"
+    );
+    assert_eq!(ran(load, &["--boards", "all"]).status.code(), Some(2));
     for (program, words) in [(load, ["now", "--svg"]), (growth, ["now", "--svg"])] {
         assert_eq!(ran(program, &words[..1]).status.code(), Some(2));
         assert_eq!(ran(program, &words[1..]).status.code(), Some(2));

@@ -1,9 +1,10 @@
-//! How many tables a referee holds: `load [SECONDS] [--svg FILE] [--most TABLES] [--seed SEED]`.
+//! How many tables a referee holds:
+//! `load [SECONDS] [--boards games|mixed|nested] [--svg FILE] [--most TABLES] [--seed SEED]`.
 //!
 //! N tables at 60 frames a second on all cores; each frame asks its table's list under the lock. A
 //! search finds the largest N with p99 of the lock under 100 µs and no frame late, in runs of a tenth
 //! of SECONDS (60 if it is not said), then in one of all of them; the original's and ours, on boards
-//! of games and on nested ones. Exit status 2 for wrong usage and a failed write.
+//! of games, on these with nested ones among them, and on nested ones, or on those that are named. Exit status 2 for wrong usage and a failed write.
 
 use std::process::ExitCode;
 use std::{env, fs, thread};
@@ -11,36 +12,36 @@ use std::{env, fs, thread};
 use oracle::board::board::Board;
 use renju::Cells;
 use runs::load::{self, Found, Outcome, Settings};
+use runs::timing::curves::{self, Chart};
 use runs::timing::sets::{self, Ready};
-use runs::timing::{curves, machine, suite};
+use runs::timing::{machine, suite};
 
 struct Asked {
     settings: Settings,
+    /// The name of a pool; all three where there is none.
+    boards: Option<String>,
     seed: u64,
     svg: Option<String>,
 }
 
 fn main() -> ExitCode {
     let Some(asked) = read_arguments() else {
-        eprintln!("usage: load [SECONDS] [--svg FILE] [--most TABLES] [--seed SEED]");
+        eprintln!(
+            "usage: load [SECONDS] [--boards games|mixed|nested] [--svg FILE] [--most TABLES] [--seed SEED]"
+        );
         return ExitCode::from(2);
     };
-    let settings = asked.settings;
     say_conditions(&asked);
     let mut summary = Vec::new();
-    let charts = pools(asked.seed).map(|(words, pool)| {
-        let original = held("original", words, |told| {
-            load::search::<Board>(&pool, &settings, told)
-        });
-        let ours = held("ours", words, |told| {
-            load::search::<Cells>(&pool, &settings, told)
-        });
-        summary.extend([
-            found("original", words, &original),
-            found("ours", words, &ours),
-        ]);
-        load::chart(words, &original.tried, &ours.tried)
-    });
+    let mut charts = Vec::new();
+    for (name, words, pool) in pools(asked.seed) {
+        if asked.boards.as_deref().is_some_and(|wanted| wanted != name) {
+            continue;
+        }
+        let (lines, chart) = searched(&asked.settings, words, &pool);
+        summary.extend(lines);
+        charts.push(chart);
+    }
     println!(
         "\n{:>40} {:>9} {:>16} {:>14}",
         "boards", "referee", "lock under 100", "no frame late"
@@ -55,6 +56,21 @@ fn main() -> ExitCode {
     ExitCode::SUCCESS
 }
 
+/// Both referees on a pool: a line for what each was found to hold, and the chart.
+fn searched(settings: &Settings, words: &'static str, pool: &[Ready]) -> ([String; 2], Chart) {
+    let original = held("original", words, |told| {
+        load::search::<Board>(pool, settings, told)
+    });
+    let ours = held("ours", words, |told| {
+        load::search::<Cells>(pool, settings, told)
+    });
+    let lines = [
+        found("original", words, &original),
+        found("ours", words, &ours),
+    ];
+    (lines, load::chart(words, &original.tried, &ours.tried))
+}
+
 fn say_conditions(asked: &Asked) {
     let settings = asked.settings;
     println!(
@@ -67,15 +83,18 @@ fn say_conditions(asked: &Asked) {
     );
 }
 
-/// The boards that the tables get, by what they are.
-fn pools(seed: u64) -> [(&'static str, Vec<Ready>); 3] {
+/// The pools' names.
+const POOLS: [&str; 3] = ["games", "mixed", "nested"];
+
+/// The boards that the tables get: the pool's name, what they are, and they.
+fn pools(seed: u64) -> [(&'static str, &'static str, Vec<Ready>); 3] {
     let games = load::games(seed, 100);
     let nested = sets::nested(seed, 200).boards;
     let mixed = load::mixed(&games, &nested, 20);
     [
-        ("games", games),
-        ("games, one in 20 nested 4 deep or more", mixed),
-        ("nested 4 deep or more", nested),
+        (POOLS[0], "games", games),
+        (POOLS[1], "games, one in 20 nested 4 deep or more", mixed),
+        (POOLS[2], "nested 4 deep or more", nested),
     ]
 }
 
@@ -86,12 +105,16 @@ fn read_arguments() -> Option<Asked> {
             workers: thread::available_parallelism().map_or(1, |n| n.get()),
             most: 1_000_000,
         },
+        boards: None,
         seed: suite::SEED,
         svg: None,
     };
     let mut words = env::args().skip(1);
     while let Some(word) = words.next() {
         match word.as_str() {
+            "--boards" => {
+                asked.boards = Some(words.next().filter(|name| POOLS.contains(&name.as_str()))?);
+            }
             "--svg" => asked.svg = Some(words.next()?),
             "--most" => asked.settings.most = words.next()?.parse().ok().filter(|&n| n > 0)?,
             "--seed" => asked.seed = words.next()?.parse().ok()?,
