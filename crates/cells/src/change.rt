@@ -2,7 +2,9 @@
 use super::refusal::cells_refusal_at;
 use super::refusal::cells_refusal_for;
 ghost use mathlib.Core.Path.{_≡_};
-ghost use lib.ListN.{getD, set};
+ghost use mathlib.Core.Bool.{cond};
+ghost use Prim.Native.Nat.{_<_};
+ghost use lib.ListN.{length, getD, set};
 ghost use Rattle.cells.specs.Cells.{cellsRefusalAt, cellsRefusalFor};
 ghost use Rattle.cells.specs.Calls.{afterPut, afterRemove};
 
@@ -23,6 +25,42 @@ pub(crate) fn set_value(cells: &mut [u8], code: u8, value: u8)
     }
 }
 
+// A cell of a board set to a value, with the sixteen of its block. The test of the cells, which the next call begins with, reads them in
+// such blocks, and takes one over that was written whole; for a single byte in it, just written, it would have to wait. The last cell lies
+// in no block, and is tested by itself.
+fn write_cell(cells: &mut [u8], code: u8, value: u8)
+    requires { ⌜ (length (now cells) ≡ 225) × (code < 225) ⌝ }
+    ensures { λ _. ⌜ now (cells .exit) ≡ set (now (cells .entry)) code value ⌝ }
+{
+    if code < 224 {
+        write_block(cells, code, value);
+    } else {
+        cells[code as usize] = value;
+    }
+}
+
+// .. where it is not the last: each of the sixteen is written, and only the one at the point changes.
+fn write_block(cells: &mut [u8], code: u8, value: u8)
+    requires { ⌜ (length (now cells) ≡ 225) × (code < 224) ⌝ }
+    ensures { λ _. ⌜ now (cells .exit) ≡ set (now (cells .entry)) code value ⌝ }
+{
+    let place = code % 16;
+    let begin = code - place;
+    let mut i = 0u8;
+    while i < 16 {
+        let at = (begin + i) as usize;
+        cells[at] = chosen(i == place, value, cells[at]);
+        i += 1;
+    }
+}
+
+// One of two values, with no branch.
+fn chosen(first: bool, one: u8, other: u8) -> u8
+    ensures { λ r. ⌜ r ≡ cond first one other ⌝ }
+{
+    if first { one } else { other }
+}
+
 // A stone of the colour put at a point, in place of what stood there; or the refusal, and no cell is changed.
 pub fn put_of(cells: &mut [u8], code: u8, colour: u8) -> u8
     ensures { λ r. ⌜ (r ≡ cellsRefusalFor (now (cells .entry)) code colour)
@@ -32,7 +70,7 @@ pub fn put_of(cells: &mut [u8], code: u8, colour: u8) -> u8
     if refused != 0 {
         return refused;
     }
-    cells[code as usize] = colour;
+    write_cell(cells, code, colour);
     0
 }
 
@@ -45,6 +83,6 @@ pub fn remove_of(cells: &mut [u8], code: u8) -> u8
     if refused != 0 {
         return refused;
     }
-    cells[code as usize] = 0;
+    write_cell(cells, code, 0);
     0
 }

@@ -2,6 +2,7 @@
 use point::code_refusal;
 use rules::colour_refusal;
 use rules::first;
+use rules::larger;
 use rules::unless;
 ghost use mathlib.Core.Path.{_≡_};
 ghost use lib.Dec.{leb};
@@ -20,18 +21,18 @@ pub fn cells_refusal(cells: &[u8]) -> u8
     if all_small(cells) { 0 } else { 9 }
 }
 
-// Whether 225 cell bytes are all 0, 1 or 2. No byte ends the loop, so that many are compared at once.
+// Whether 225 cell bytes are all 0, 1 or 2: whether the greatest is. No byte ends the loop, so that many are compared at once.
 fn all_small(cells: &[u8]) -> bool
     requires { ⌜ length (now cells) ≡ 225 ⌝ }
     ensures { λ r. ⌜ r ≡ allBelow 225 (λ p. leb (getD (now (cells .entry)) p 0) 2) ⌝ }
 {
-    let mut small = true;
+    let mut most = 0u8;
     let mut i = 0;
     while i < 225 {
-        small = small & (cells[i] <= 2);
+        most = larger(most, cells[i]);
         i += 1;
     }
-    small
+    most <= 2
 }
 
 // Whether a list of codes names points only: 8 where one does not.

@@ -2,7 +2,6 @@
 // eyes of all Threes through it are asked about, and it is taken off again. Each turn has one empty point fewer.
 use super::look::asks_nested;
 use super::look::eye_at;
-use super::look::larger;
 use super::look::rows_at;
 use grid::cell_on;
 use grid::mark_by;
@@ -11,6 +10,7 @@ use near::next_start;
 use near::some_row;
 use point::addresses;
 use rules::Player;
+use rules::larger;
 ghost use mathlib.Core.Path.{_≡_};
 ghost use Prim.Native.Nat.{_/_, _%_, _<_};
 ghost use lib.Dec.{T};

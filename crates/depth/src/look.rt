@@ -16,7 +16,6 @@ ghost use Prim.Native.Nat.{_/_, _%_, _<_};
 ghost use lib.Dec.{T};
 ghost use Rattle.rules.specs.Grid.{startsOf, rowsThrough};
 ghost use Rattle.rules.specs.Forbidden.{someRow, moreThanOne, blackRows, eyeOf};
-ghost use Rattle.rules.specs.Depth.{larger};
 ghost use Rattle.rules.specs.declared.Player.the-variants.{Black};
 ghost use Rattle.rules.specs.declared.RowKind.the-variants.{Three};
 ghost use Rattle.point.specs.Places.{addresses};
@@ -66,10 +65,4 @@ pub(crate) fn eye_at(lines: &[u16; 144], table: &[u16; 900], code: u8, three: u8
     let here = address_by(table, d, code);
     let gap = first_gap(mask_on(lines, here.key, Player::Black), three % 16);
     point_at(d, line_no(d, code), gap) as u8
-}
-
-pub(crate) fn larger(a: u8, b: u8) -> u8
-    ensures { λ r. ⌜ r ≡ larger a b ⌝ }
-{
-    if a <= b { b } else { a }
 }

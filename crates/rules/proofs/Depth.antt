@@ -9,7 +9,7 @@ use native.Mathlib.Nat.{eq-or-lt-of-le, le-of-suc-le-suc, not-suc-le-zero}
 use native.Mathlib.Numerals.{add-one}
 use native.Mathlib.Omega.{arith}
 use native.Mathlib.Decide.{decLt}
-use lib.Dec.{T, leb}
+use lib.Dec.{T, leb, leb→le, le→leb}
 use lib.ListN.{length, getD, length-set}
 use borrow.Author.Tests.{leb-true, leb-false}
 use Rattle.rules.specs.Point.{lineNo, lineSize, pointAt}
@@ -20,7 +20,7 @@ use Rattle.rules.specs.Depth.{larger, greatest, counts, asksNested, eyeD
 use Rattle.rules.specs.Views.{turn, undo, turnCells}
 use Rattle.rules.specs.declared.Player.the-variants.{Black}
 use Rattle.rules.specs.declared.RowKind.the-variants.{Two, Three}
-use Rattle.rules.proofs.Logic.{T-true, along, and-right}
+use Rattle.rules.proofs.Logic.{T-true, along, and-left, and-right, and-intro, both-ways}
 use Rattle.rules.proofs.Address.{point-lt, line-here, size-le}
 use Rattle.rules.proofs.Turns.{turnDir, flips, turn-lt, turn-undo, undo-lt, dir-lt, turn-point}
 use Rattle.rules.proofs.Rows.{start-lt, through-inside, eye-inside}
@@ -60,6 +60,19 @@ larger-le a b m ha hb = go (leb a b)
     go : (t : Bool) → cond t b a ≤ m
     go true = hb
     go false = ha
+
+-- the larger of two is at most m exactly where both are
+pub larger-leb : (a b m : ℕ) → leb (larger a b) m ≡ (leb a m && leb b m)
+larger-leb a b m =
+    both-ways (leb (larger a b) m) (leb a m && leb b m)
+    (λ t.
+    let h = leb→le (larger a b) m t in
+    and-intro (leb a m) (leb b m)
+    (le→leb a m (omega (arith, h, larger-left a b)))
+    (le→leb b m (omega (arith, h, larger-right a b))))
+    (λ t.
+    le→leb (larger a b) m
+    (larger-le a b m (leb→le a m (and-left (leb a m) (leb b m) t)) (leb→le b m (and-right (leb a m) (leb b m) t))))
 
 greatest-ge : (n : ℕ) (f : ℕ → ℕ) (i : ℕ) → i < n → f i ≤ greatest n f
 unfolding greatest

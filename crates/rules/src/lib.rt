@@ -17,6 +17,7 @@ ghost use Rattle.rules.specs.Numbers.{directionNo, directionOf, kindNo, 
 ghost use Rattle.rules.specs.Refusals.{unless, first, colourRefusal, directionRefusal, kindRefusal};
 ghost use Rattle.rules.specs.Answers.{playerAnswer, directionAnswer, kindAnswer};
 ghost use Rattle.rules.specs.Line.{rowStones, spansTwo, eyeCells};
+ghost use Rattle.rules.specs.Depth.{larger};
 
 // The two colours of stones. As a number: 1 Black, 2 White.
 pub enum Player {
@@ -297,4 +298,10 @@ pub fn kind_refusal(kind: u8) -> u8
     ensures { λ r. ⌜ r ≡ kindRefusal kind ⌝ }
 {
     unless(kind <= 7, 12)
+}
+
+pub fn larger(a: u8, b: u8) -> u8
+    ensures { λ r. ⌜ r ≡ larger a b ⌝ }
+{
+    if a <= b { b } else { a }
 }

@@ -1,6 +1,5 @@
 -- `cells::change::put_of` meets its contract: refused, or the cell set to the colour's number. Assumes nothing.
 use mathlib.Core.Path.{ap, sym, _∙_}
-use native.Mathlib.Omega.{arith}
 use denote.Ref.{now}
 use lib.ListN.{set}
 use Rattle.cells.specs.Calls.{afterPut}
@@ -19,12 +18,12 @@ returns : tie.Need-returns
 unfolding afterPut
 returns c = kept-as-was (c .before .cells-refusal-for .ensures) _ _ (c .if1 .taken)
 
-slice-write-cells : tie.Need-slice-write-cells
-slice-write-cells c =
-    let f = c .before in
+write-cell-requires : tie.Need-write-cell-requires
+write-cell-requires c κs =
+    let f = c .before .before in
     let a = f .before .before .before .args in
-    let ok = cells-for-in (now (a .cells)) (a .code) (a .colour) (sym (f .cells-refusal-for .ensures) ∙ c .if1 .left) in
-    omega (arith, ok .0 .long, ok .1)
+    let ok = cells-for-in (now (a .cells)) (a .code) (a .colour) (sym (f .cells-refusal-for .ensures) ∙ c .before .if1 .left) in
+    (ok .0 .long, ok .1)
 
 same-length-2 : tie.Need-same-length-2
 same-length-2 c = search needs
@@ -32,10 +31,13 @@ same-length-2 c = search needs
 returns-2 : tie.Need-returns-2
 unfolding afterPut
 returns-2 c =
-    let f = c .before in
+    let w = c .before .before in
+    let e = w .before .before in
+    let f = e .before in
     let a = f .before .before .before .args in
-    let ok = cells-for-in (now (a .cells)) (a .code) (a .colour) (sym (f .cells-refusal-for .ensures) ∙ c .if1 .left) in
-    changed-to (f .cells-refusal-for .ensures) _ (c .if1 .left) (ap (set (now (a .cells)) (a .code)) (colour-cell (a .colour) (ok .2)))
+    let ok = cells-for-in (now (a .cells)) (a .code) (a .colour) (sym (f .cells-refusal-for .ensures) ∙ e .if1 .left) in
+    changed-to (f .cells-refusal-for .ensures) _ (e .if1 .left)
+    (w .write-cell .ensures ∙ ap (set (now (a .cells)) (a .code)) (colour-cell (a .colour) (ok .2)))
 
 pub put-of-spec : {M : Type 1} → statement M
 put-of-spec =
@@ -44,6 +46,6 @@ put-of-spec =
     cells-refusal-for-requires
     same-length
     returns
-    slice-write-cells
+    write-cell-requires
     same-length-2
     returns-2)

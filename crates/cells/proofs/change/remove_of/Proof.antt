@@ -1,6 +1,5 @@
 -- `cells::change::remove_of` meets its contract: refused, or the cell set to none. Assumes nothing.
-use mathlib.Core.Path.{refl, sym, _∙_}
-use native.Mathlib.Omega.{arith}
+use mathlib.Core.Path.{sym, _∙_}
 use denote.Ref.{now}
 use Rattle.cells.specs.Calls.{afterRemove}
 use Rattle.cells.proofs.Given.{cells-at-in, kept-as-was, changed-to}
@@ -18,19 +17,22 @@ returns : tie.Need-returns
 unfolding afterRemove
 returns c = kept-as-was (c .before .cells-refusal-at .ensures) _ _ (c .if1 .taken)
 
-slice-write-cells : tie.Need-slice-write-cells
-slice-write-cells c =
-    let f = c .before in
+write-cell-requires : tie.Need-write-cell-requires
+write-cell-requires c κs =
+    let f = c .before .before in
     let a = f .before .before .before .args in
-    let ok = cells-at-in (now (a .cells)) (a .code) (sym (f .cells-refusal-at .ensures) ∙ c .if1 .left) in
-    omega (arith, ok .0 .long, ok .1)
+    let ok = cells-at-in (now (a .cells)) (a .code) (sym (f .cells-refusal-at .ensures) ∙ c .before .if1 .left) in
+    (ok .0 .long, ok .1)
 
 same-length-2 : tie.Need-same-length-2
 same-length-2 c = search needs
 
 returns-2 : tie.Need-returns-2
 unfolding afterRemove
-returns-2 c = changed-to (c .before .cells-refusal-at .ensures) _ (c .if1 .left) refl
+returns-2 c =
+    let w = c .before .before in
+    let e = w .before .before in
+    changed-to (e .before .cells-refusal-at .ensures) _ (e .if1 .left) (w .write-cell .ensures)
 
 pub remove-of-spec : {M : Type 1} → statement M
 remove-of-spec =
@@ -39,6 +41,6 @@ remove-of-spec =
     cells-refusal-at-requires
     same-length
     returns
-    slice-write-cells
+    write-cell-requires
     same-length-2
     returns-2)

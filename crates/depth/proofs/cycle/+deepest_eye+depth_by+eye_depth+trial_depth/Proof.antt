@@ -36,7 +36,7 @@ use Rattle.depth.proofs.cycle.trial_depth.Kinds as trial-depth-kinds
 use Rattle.depth.proofs.cycle.+deepest_eye+depth_by+eye_depth+trial_depth.Lts-trial_depth as trial-depth-lts
 use Rattle.depth.proofs.look.asks_nested.Reads as asks-nested-reads
 use Rattle.depth.proofs.look.eye_at.Reads as eye-at-reads
-use Rattle.depth.proofs.look.larger.Reads as larger-reads
+use Rattle.rules.proofs.larger.Reads as larger-reads
 use Rattle.depth.proofs.look.rows_at.Reads as rows-at-reads
 use Rattle.grid.proofs.mark_by.Reads as mark-by-reads
 use Rattle.near.proofs.next_start.Reads as next-start-reads

@@ -1,8 +1,8 @@
--- `depth::look::larger` meets its contract. Assumes nothing.
+-- `rules::larger` meets its contract. Assumes nothing.
 use borrow.Author.Tests.{le-leb, lt-leb}
 use Rattle.rules.specs.Depth.{larger}
-use Rattle.depth.proofs.look.larger.Statement.{statement}
-use Rattle.depth.proofs.look.larger.Tie as tie
+use Rattle.rules.proofs.larger.Statement.{statement}
+use Rattle.rules.proofs.larger.Tie as tie
 
 returns : tie.Need-returns
 unfolding larger
