@@ -84,7 +84,7 @@ build() {
     mkdir -p "$here/target"
     began=$here/target/$name.began
     touch "$began"
-    if ! said=$(cd "$here" && rt check "$name" 2>&1 </dev/null) || [ ! -x "$program" ]; then
+    if ! said=$(cd "$here" && scripts/in_memory rt check "$name" 2>&1 </dev/null) || [ ! -x "$program" ]; then
         printf '%s\n' "$said" | tail -n 20 >&2
         exit 2
     fi
