@@ -25,21 +25,10 @@ pub(crate) fn set_value(cells: &mut [u8], code: u8, value: u8)
     }
 }
 
-// A cell of a board set to a value, with the sixteen of its block. The test of the cells, which the next call begins with, reads them in
-// such blocks, and takes one over that was written whole; for a single byte in it, just written, it would have to wait. The last cell lies
-// in no block, and is tested by itself.
-fn write_cell(cells: &mut [u8], code: u8, value: u8)
-    requires { ⌜ (length (now cells) ≡ 225) × (code < 225) ⌝ }
-    ensures { λ _. ⌜ now (cells .exit) ≡ set (now (cells .entry)) code value ⌝ }
-{
-    if code < 224 {
-        write_block(cells, code, value);
-    } else {
-        cells[code as usize] = value;
-    }
-}
-
-// .. where it is not the last: each of the sixteen is written, and only the one at the point changes.
+// A cell of a board, but for the last, set to a value, with the sixteen of its block: each of them is written, and only the one at the
+// point changes. The test of the cells, which the next call begins with, reads them in such blocks, and takes one over that was written
+// whole; for a single byte in it, just written, it would have to wait. The last cell lies in no block, and is tested by itself. (That those
+// who call look for it themselves lets the block be compiled into both of them.)
 fn write_block(cells: &mut [u8], code: u8, value: u8)
     requires { ⌜ (length (now cells) ≡ 225) × (code < 224) ⌝ }
     ensures { λ _. ⌜ now (cells .exit) ≡ set (now (cells .entry)) code value ⌝ }
@@ -70,7 +59,11 @@ pub fn put_of(cells: &mut [u8], code: u8, colour: u8) -> u8
     if refused != 0 {
         return refused;
     }
-    write_cell(cells, code, colour);
+    if code < 224 {
+        write_block(cells, code, colour);
+    } else {
+        cells[code as usize] = colour;
+    }
     0
 }
 
@@ -83,6 +76,10 @@ pub fn remove_of(cells: &mut [u8], code: u8) -> u8
     if refused != 0 {
         return refused;
     }
-    write_cell(cells, code, 0);
+    if code < 224 {
+        write_block(cells, code, 0);
+    } else {
+        cells[code as usize] = 0;
+    }
     0
 }
