@@ -340,15 +340,21 @@ pub fn mixed(games: &[Ready], nested: &[Ready], one_in: usize) -> Vec<Ready> {
     pool
 }
 
-/// Of several runs of one number of tables the last: that is the one that counted.
-fn curve(name: &str, colour: &'static str, tried: &[Outcome]) -> Curve {
+/// The runs of a search as they are drawn: p99 of the lock in µs against the number of tables; what was
+/// not held is hollow.
+pub fn dots(tried: &[Outcome]) -> Vec<Dot> {
     let dot = |outcome: &Outcome| Dot {
         x: outcome.tables as f64,
         y: outcome.held.per_mille(990) as f64 / 1000.0,
         is_full: outcome.is_good(),
     };
+    tried.iter().map(dot).collect()
+}
+
+/// Of several runs of one number of tables the last: that is the one that counted.
+fn curve(name: &str, colour: &'static str, runs: &[Dot]) -> Curve {
     let mut dots: Vec<Dot> = Vec::new();
-    for new in tried.iter().map(dot) {
+    for &new in runs {
         dots.retain(|known| known.x != new.x);
         dots.push(new);
     }
@@ -360,8 +366,42 @@ fn curve(name: &str, colour: &'static str, tried: &[Outcome]) -> Curve {
     }
 }
 
+/// What the program `load` has told of its runs, drawn: a chart for each sort of boards, in their order.
+/// None where a line of a table can't be read, or a sort has not both referees.
+pub fn charts(told: &str) -> Option<Vec<Chart>> {
+    let mut searches: Vec<(&str, &str, Vec<Dot>)> = Vec::new();
+    let mut lines = told.lines();
+    while let Some(line) = lines.next() {
+        let Some((referee @ ("original" | "ours"), words)) = line.split_once(", ") else {
+            continue;
+        };
+        // The line of headings, then the runs, up to an empty line.
+        let runs = lines.by_ref().skip(1).take_while(|line| !line.is_empty());
+        let dots: Option<Vec<Dot>> = runs.map(dot_of).collect();
+        searches.push((referee, words, dots?));
+    }
+    let pairs = searches.chunks(2).map(|pair| match pair {
+        [("original", words, original), ("ours", same, ours)] if words == same => {
+            Some(chart(words, original, ours))
+        }
+        _ => None,
+    });
+    pairs.collect()
+}
+
+/// A run as it is told: tables, frames, p50, p99, the longest and the late ones, and whether it was not held.
+fn dot_of(line: &str) -> Option<Dot> {
+    let words: Vec<&str> = line.split_whitespace().collect();
+    let ([tables, _, _, p99, _, _], rest) = words.split_first_chunk()?;
+    Some(Dot {
+        x: tables.parse().ok()?,
+        y: p99.parse().ok()?,
+        is_full: rest.is_empty(),
+    })
+}
+
 /// p99 of the lock against the number of tables, the original's and ours. What was not held is hollow.
-pub fn chart(words: &str, original: &[Outcome], ours: &[Outcome]) -> Chart {
+pub fn chart(words: &str, original: &[Dot], ours: &[Dot]) -> Chart {
     let curves = vec![
         curve("the original", "#b34700", original),
         curve("this referee", "#1257c8", ours),

@@ -1,6 +1,7 @@
 //! That the load program counts, searches and draws rightly, and that the programs of load and growth
 //! run on little.
 
+use std::fs;
 use std::process::{Command, Output};
 
 use oracle::board::board::Board;
@@ -176,6 +177,33 @@ fn boards_by_depth() {
     }
 }
 
+/// What was told of the runs is drawn as they were: so many points, as many of them hollow.
+fn drawn_again(load: &str, told: &[u8], picture: &str) {
+    let (runs, again) = (format!("{picture}.txt"), format!("{picture}.again"));
+    fs::write(&runs, told).expect("it is written");
+    let run = ran(load, &["--told", &runs, "--svg", &again]);
+    assert!(run.status.success() && run.stdout.is_empty());
+    let counts = [picture, &again].map(|file| {
+        let text = fs::read_to_string(file).expect("a picture");
+        ["<polyline ", "<circle ", "fill=\"#fff\""].map(|mark| text.matches(mark).count())
+    });
+    assert_eq!(counts[0], counts[1]);
+    assert_eq!(ran(load, &["--told", &runs]).status.code(), Some(2));
+}
+
+#[test]
+fn what_was_not_told_is_not_drawn() {
+    let load = env!("CARGO_BIN_EXE_load");
+    let file = concat!(env!("CARGO_TARGET_TMPDIR"), "/odd.txt");
+    for text in ["ours, games\nheadings\n1 2 3\n", "ours, games\nheadings\n"] {
+        fs::write(file, text).expect("it is written");
+        let run = ran(load, &["--told", file, "--svg", "/dev/null"]);
+        assert_eq!(run.status.code(), Some(2), "{text}");
+    }
+    let run = ran(load, &["--told", "/no/such/file", "--svg", "/dev/null"]);
+    assert_eq!(run.status.code(), Some(2));
+}
+
 fn ran(program: &str, words: &[&str]) -> Output {
     Command::new(program).args(words).output().expect("it runs")
 }
@@ -197,6 +225,7 @@ fn the_programs_run_on_little() {
         3,
         "{text}"
     );
+    drawn_again(load, &run.stdout, &files[0]);
     let run = ran(growth, &["quick", "7", "--svg", &files[1]]);
     let text = String::from_utf8_lossy(&run.stdout);
     assert!(

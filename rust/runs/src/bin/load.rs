@@ -1,10 +1,12 @@
 //! How many tables a referee holds:
-//! `load [SECONDS] [--boards games|mixed|nested] [--svg FILE] [--most TABLES] [--seed SEED]`.
+//! `load [SECONDS] [--boards games|mixed|nested] [--svg FILE] [--most TABLES] [--seed SEED]`; and
+//! `load --told FILE --svg FILE`, which draws what earlier runs have written.
 //!
 //! N tables at 60 frames a second on all cores; each frame asks its table's list under the lock. A
 //! search finds the largest N with p99 of the lock under 100 µs and no frame late, in runs of a tenth
 //! of SECONDS (60 if it is not said), then in one of all of them; the original's and ours, on boards
-//! of games, on these with nested ones among them, and on nested ones, or on those that are named. Exit status 2 for wrong usage and a failed write.
+//! of games, on these with nested ones among them, and on nested ones, or on those that are named. Exit
+//! status 2 for wrong usage, a file that can't be read as what was told, and a failed write.
 
 use std::process::ExitCode;
 use std::{env, fs, thread};
@@ -22,16 +24,50 @@ struct Asked {
     boards: Option<String>,
     seed: u64,
     svg: Option<String>,
+    /// A file that has what was told: nothing is run.
+    told: Option<String>,
 }
+
+const USAGE: &str =
+    "usage: load [SECONDS] [--boards games|mixed|nested] [--svg FILE] [--most TABLES] [--seed SEED]
+       load --told FILE --svg FILE    draws what was written by earlier runs";
 
 fn main() -> ExitCode {
     let Some(asked) = read_arguments() else {
-        eprintln!(
-            "usage: load [SECONDS] [--boards games|mixed|nested] [--svg FILE] [--most TABLES] [--seed SEED]"
-        );
+        eprintln!("{USAGE}");
         return ExitCode::from(2);
     };
-    say_conditions(&asked);
+    let charts = match &asked.told {
+        Some(file) => read_charts(file),
+        None => Ok(run_all(&asked)),
+    };
+    let drawn = charts.and_then(|charts| draw(&asked, &charts));
+    match drawn {
+        Ok(()) => ExitCode::SUCCESS,
+        Err(error) => {
+            eprintln!("{error}");
+            ExitCode::from(2)
+        }
+    }
+}
+
+/// The charts of what was told in a file.
+fn read_charts(file: &str) -> Result<Vec<Chart>, String> {
+    let text = fs::read_to_string(file).map_err(|error| format!("{file}: {error}"))?;
+    load::charts(&text).ok_or_else(|| format!("{file}: not what load writes"))
+}
+
+/// The picture, where one is wanted.
+fn draw(asked: &Asked, charts: &[Chart]) -> Result<(), String> {
+    let Some(file) = &asked.svg else {
+        return Ok(());
+    };
+    fs::write(file, curves::svg(charts)).map_err(|error| format!("{file}: {error}"))
+}
+
+/// The searches that are asked for, each told as it goes, and all together at the end.
+fn run_all(asked: &Asked) -> Vec<Chart> {
+    say_conditions(asked);
     let mut summary = Vec::new();
     let mut charts = Vec::new();
     for (name, words, pool) in pools(asked.seed) {
@@ -47,13 +83,7 @@ fn main() -> ExitCode {
         "boards", "referee", "lock under 100", "no frame late"
     );
     println!("{}", summary.join("\n"));
-    if let Some(file) = asked.svg
-        && let Err(error) = fs::write(&file, curves::svg(&charts))
-    {
-        eprintln!("{file}: {error}");
-        return ExitCode::from(2);
-    }
-    ExitCode::SUCCESS
+    charts
 }
 
 /// Both referees on a pool: a line for what each was found to hold, and the chart.
@@ -68,7 +98,8 @@ fn searched(settings: &Settings, words: &'static str, pool: &[Ready]) -> ([Strin
         found("original", words, &original),
         found("ours", words, &ours),
     ];
-    (lines, load::chart(words, &original.tried, &ours.tried))
+    let (original, ours) = (load::dots(&original.tried), load::dots(&ours.tried));
+    (lines, load::chart(words, &original, &ours))
 }
 
 fn say_conditions(asked: &Asked) {
@@ -108,6 +139,7 @@ fn read_arguments() -> Option<Asked> {
         boards: None,
         seed: suite::SEED,
         svg: None,
+        told: None,
     };
     let mut words = env::args().skip(1);
     while let Some(word) = words.next() {
@@ -116,13 +148,15 @@ fn read_arguments() -> Option<Asked> {
                 asked.boards = Some(words.next().filter(|name| POOLS.contains(&name.as_str()))?);
             }
             "--svg" => asked.svg = Some(words.next()?),
+            "--told" => asked.told = Some(words.next()?),
             "--most" => asked.settings.most = words.next()?.parse().ok().filter(|&n| n > 0)?,
             "--seed" => asked.seed = words.next()?.parse().ok()?,
             seconds => asked.settings.seconds = seconds.parse().ok()?,
         }
     }
     let good = (0.1..=3600.0).contains(&asked.settings.seconds);
-    good.then_some(asked)
+    let draws = asked.told.is_none() || asked.svg.is_some();
+    (good && draws).then_some(asked)
 }
 
 /// A search, told while it runs.
