@@ -43,7 +43,7 @@ fn write_block(cells: &mut [u8], code: u8, value: u8)
     }
 }
 
-// One of two values, with no branch.
+// One of two values; the compiler makes no branch of it.
 fn chosen(first: bool, one: u8, other: u8) -> u8
     ensures { λ r. ⌜ r ≡ cond first one other ⌝ }
 {

@@ -12,12 +12,13 @@
  *
  * A slice is two arguments, a pointer and a length; NULL with length 0 is an empty one. The functions
  * keep no state and no pointer, so any thread may call them. They take any bytes and any numbers, and
- * never trap. A refusal leaves every lent byte as it was; an answer writes its own leading bytes of
+ * never trap. A refusal leaves every lent byte as it was; an answer changes its own leading bytes of
  * the lent buffer (renju_put, renju_remove and renju_feed_take: one byte) and no other.
  *
  * What the caller answers for: a pointer has as many bytes behind it as its length says, and is NULL
  * only with length 0; a buffer that is written (`out`, and `cells` and `held` where they are not
- * const) overlaps nothing else that is handed over; a `bool` is 0 or 1, as C has it.
+ * const) overlaps nothing else that is handed over, and no other thread uses it meanwhile, not even
+ * other bytes of it; a `bool` is 0 or 1, as C has it.
  *
  * Cells are 225 bytes in code order, 0 empty, 1 black, 2 white. A point's code is 15 x + y: A1 is
  * 0, H8 is 112, O15 is 224. Where several refusals of a function apply, the first named is given. A
@@ -243,11 +244,11 @@ uint32_t renju_to_string(const uint8_t *cells, size_t cells_len, uint8_t *out, s
 uint32_t renju_to_pretty_string(const uint8_t *cells, size_t cells_len, uint8_t *out,
                                 size_t out_len);
 
-/* Puts a stone of a colour at a point, in place of what stood there: 0; one byte of `cells` is written.
- * Refusals 9, 8, 12. */
+/* Puts a stone of a colour at a point, in place of what stood there: 0; one byte of `cells` is changed.
+ * Others near it may be written as they were. Refusals 9, 8, 12. */
 uint32_t renju_put(uint8_t *cells, size_t cells_len, uint8_t code, uint8_t colour);
 
-/* Makes a point empty: 0; one byte of `cells` is written. Refusals 9, 8. */
+/* Makes a point empty: 0; one byte of `cells` is changed, as by renju_put. Refusals 9, 8. */
 uint32_t renju_remove(uint8_t *cells, size_t cells_len, uint8_t code);
 
 /* A colour's stones: how many; in `out` a code each, ascending. Refusals 9, 12, 13. */

@@ -2,7 +2,7 @@
 //! high half (0: none), the answer in the low.
 //!
 //! They are for callers that keep their own buffers. Any bytes and numbers may be handed to them. A
-//! refusal leaves every lent byte as it was; an answer writes its own leading bytes of the lent
+//! refusal leaves every lent byte as it was; an answer changes its own leading bytes of the lent
 //! buffer ([`renju_put`], [`renju_remove`], [`renju_feed_take`]: one byte) and no other. No pointer is
 //! kept. Cells are 225 bytes in code order, 0 empty, 1 black, 2 white. What each can refuse is said
 //! with it; where several apply, the first named is given.

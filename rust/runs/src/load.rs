@@ -367,7 +367,7 @@ fn curve(name: &str, colour: &'static str, runs: &[Dot]) -> Curve {
 }
 
 /// What the program `load` has told of its runs, drawn: a chart for each sort of boards, in their order.
-/// None where a line of a table can't be read, or a sort has not both referees.
+/// None where there is no search, a line of one can't be read, or a sort has not both referees.
 pub fn charts(told: &str) -> Option<Vec<Chart>> {
     let mut searches: Vec<(&str, &str, Vec<Dot>)> = Vec::new();
     let mut lines = told.lines();
@@ -379,6 +379,9 @@ pub fn charts(told: &str) -> Option<Vec<Chart>> {
         let runs = lines.by_ref().skip(1).take_while(|line| !line.is_empty());
         let dots: Option<Vec<Dot>> = runs.map(dot_of).collect();
         searches.push((referee, words, dots?));
+    }
+    if searches.is_empty() {
+        return None;
     }
     let pairs = searches.chunks(2).map(|pair| match pair {
         [("original", words, original), ("ours", same, ours)] if words == same => {

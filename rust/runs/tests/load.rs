@@ -195,13 +195,35 @@ fn drawn_again(load: &str, told: &[u8], picture: &str) {
 fn what_was_not_told_is_not_drawn() {
     let load = env!("CARGO_BIN_EXE_load");
     let file = concat!(env!("CARGO_TARGET_TMPDIR"), "/odd.txt");
-    for text in ["ours, games\nheadings\n1 2 3\n", "ours, games\nheadings\n"] {
+    for text in [
+        "",
+        "ours, games\nheadings\n1 2 3\n",
+        "ours, games\nheadings\n",
+    ] {
         fs::write(file, text).expect("it is written");
         let run = ran(load, &["--told", file, "--svg", "/dev/null"]);
         assert_eq!(run.status.code(), Some(2), "{text}");
     }
     let run = ran(load, &["--told", "/no/such/file", "--svg", "/dev/null"]);
     assert_eq!(run.status.code(), Some(2));
+}
+
+/// Tables, p99 and whether they were held; of two runs of one number of tables the last counts.
+#[test]
+fn what_was_told_is_read() {
+    let told = "machine: one\n\noriginal, games\ntables frames p50 p99 max late\n\
+        1 360 25.60 39.94 136.3 0\n2 720 27.65 65.53 87.6 7  not held\n\n\
+        ours, games\ntables frames p50 p99 max late\n1 360 5.63 10.49 92.5 2  not held\n1 360 5.38 9.73 27.2 0\n";
+    let charts = load::charts(told).expect("it is read");
+    let dot = |x, y, is_full| Dot { x, y, is_full };
+    let curves: Vec<_> = charts.iter().flat_map(|chart| &chart.curves).collect();
+    assert_eq!(charts.len(), 1);
+    assert_eq!(charts[0].words, "games");
+    assert_eq!(
+        curves[0].dots,
+        [dot(1.0, 39.94, true), dot(2.0, 65.53, false)]
+    );
+    assert_eq!(curves[1].dots, [dot(1.0, 9.73, true)]);
 }
 
 fn ran(program: &str, words: &[&str]) -> Output {

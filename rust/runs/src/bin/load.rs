@@ -142,6 +142,8 @@ fn read_arguments() -> Option<Asked> {
         told: None,
     };
     let mut words = env::args().skip(1);
+    // What was told is drawn as it is: no other word goes with it.
+    let alone = words.len() == 4;
     while let Some(word) = words.next() {
         match word.as_str() {
             "--boards" => {
@@ -155,7 +157,7 @@ fn read_arguments() -> Option<Asked> {
         }
     }
     let good = (0.1..=3600.0).contains(&asked.settings.seconds);
-    let draws = asked.told.is_none() || asked.svg.is_some();
+    let draws = asked.told.is_none() || (asked.svg.is_some() && alone);
     (good && draws).then_some(asked)
 }
 
