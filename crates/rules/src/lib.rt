@@ -300,6 +300,7 @@ pub fn kind_refusal(kind: u8) -> u8
     unless(kind <= 7, 12)
 }
 
+// Of two numbers the larger.
 pub fn larger(a: u8, b: u8) -> u8
     ensures { λ r. ⌜ r ≡ larger a b ⌝ }
 {
