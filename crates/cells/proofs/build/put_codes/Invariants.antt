@@ -1,0 +1,20 @@
+-- `cells::build::put_codes` meets its contract: what is left to put, put on the cells as they are, gives the whole. Assumes nothing.
+use mathlib.Core.Path.{◌≡◌, refl, ap, ap₂, sym, ◌∙◌}
+use mathlib.Core.List.{List}
+use Prim.Native.Nat.{ℕ, ◌+◌, ◌≤◌, ◌-◌}
+use native.Mathlib.Omega.{arith}
+use lib.ListN.{length, get_or, set, drop}
+use Rattle.rules.specs.Grid.{play}
+use Rattle.rules.specs.declared.Player.{Player}
+use Rattle.rules.proofs.Changes.{play-length}
+use Rattle.cells.specs.Cells.{puts}
+use Rattle.cells.proofs.Given.{puts-more, puts-end}
+use borrow.Author.Rules.{rules}
+use Rattle.cells.proofs.build.put_codes.Given as goal
+
+abbrev pub invariant-loop-i : goal.invariant-loop-i
+invariant-loop-i l = (l.i ≤ length l.codes)
+    × (play (puts l.alternate l.who (drop l.i l.codes)) l.cells ≡ play (puts l.alternate l.initial.who l.codes) l.initial.cells)
+
+abbrev pub decreases-loop-i : goal.decreases-loop-i
+decreases-loop-i l = length l.codes - l.i

@@ -1,0 +1,27 @@
+-- `cells::turn::turned_cells` meets its contract: after x turns the first x columns are filled in. Assumes nothing.
+use mathlib.Core.Path.{◌≡◌, ap, ◌∙◌}
+use mathlib.Core.List.{List}
+use Prim.Native.Nat.{ℕ, ◌+◌, ◌-◌, ◌*◌, ◌≤◌}
+use native.Mathlib.Omega.{arith}
+use lib.ListN.{get_or}
+use borrow.Author.Rules.{rules}
+use Rattle.lent.specs.Lists.{zeros}
+use Rattle.cells.specs.Turned.{turned_to}
+use Rattle.cells.proofs.Stepped.{copied, turned_none, turned-all}
+use Rattle.cells.proofs.turn.turned_cells.Goals as goal
+
+pub loop-x-init : goal.loop-x-init
+unfolding zeros
+loop-x-init c = (omega arith, turned_none _ _)
+
+pub returns : goal.returns
+unfolding zeros
+returns c =
+    let a = c.args in
+    let cells = a.cells.now in
+    let back = c.undone-back.result in
+    let from = c.write_out.new.1.0 in
+    let all : c.loop-x.x ≡ 15 = omega (arith, c.loop-x.invariant.0, c.loop-x-test.false) in
+    c.loop-x.invariant.1 ∙ ap (λ (n : ℕ). turned_to (15 * n) back from) all
+    ∙ ap (λ (v : ℕ). turned_to 225 v from) c.undone-back.ensures
+    ∙ turned-all a.view cells from (λ p hp. ap (λ (t : List ℕ). get_or t p 0) c.write_out.ensures.1 ∙ copied cells p hp)

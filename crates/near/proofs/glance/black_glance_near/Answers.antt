@@ -1,0 +1,16 @@
+-- `near::glance::black_glance_near` meets its contract. Assumes nothing.
+use mathlib.Core.Path.{refl}
+use mathlib.Core.Bool.{true}
+use Rattle.near.proofs.Lanes.{rows_are, four-told, may-told}
+use borrow.Author.Rules.{rules}
+use Rattle.near.proofs.glance.black_glance_near.Goals as goal
+
+pub returns : goal.returns
+returns c =
+    let a = c.args in
+    let e = rows_are a.blacks a.whites a.code true c.outside-off.ensures c.joined.ensures c.joined-2.ensures refl
+    refl c.windows_of.ensures c.rows_from-rows.ensures in (
+      four-told a.blacks a.whites a.code true e c.some_row.ensures,
+      may-told a.blacks a.whites a.code true e c.some_row-2.ensures c.more_than_one.ensures
+          c.more_than_one-2.ensures c.any_of.ensures,
+    )

@@ -1,0 +1,12 @@
+-- `point::answer::IndexAnswer::of` meets its contract: its arms are the cases of the definition. Assumes nothing.
+use borrow.Author.Tests.{eq-eqb, ne_eqb}
+use Rattle.point.specs.Answers.{index_answer}
+use Rattle.point.proofs.answer.IndexAnswer.of.Goals as goal
+
+pub returns-then-refused-eq0 : goal.returns-then-refused-eq0
+unfolding index_answer
+returns-then-refused-eq0 c = rw (eq-eqb _ 0 c.if-refused-eq0.true)
+
+pub returns-else-refused-eq0 : goal.returns-else-refused-eq0
+unfolding index_answer
+returns-else-refused-eq0 c = rw (ne_eqb _ 0 c.if-refused-eq0.false)

@@ -1,0 +1,14 @@
+-- `rules::RowKind::of` meets its contract: the refusal, or what the number names. Assumes nothing.
+use borrow.Author.Rules.{rules}
+use Rattle.rules.specs.Answers.{kind_answer}
+use Rattle.rules.specs.declared.answer.KindAnswer.TheVariants.{Is, Refused}
+use Rattle.rules.proofs.Refusals.{value-given, refusal-given}
+use Rattle.rules.proofs.RowKind.of.Goals as goal
+
+pub returns-then-refused-ne0 : goal.returns-then-refused-ne0
+unfolding kind_answer
+returns-then-refused-ne0 c = refusal-given Is Refused _ c.kind_refusal-refused.ensures c.if-refused-ne0.true
+
+pub returns : goal.returns
+unfolding kind_answer
+returns c = value-given Is Refused _ c.kind_refusal-refused.ensures c.if-refused-ne0.false c.or_overlined.ensures
