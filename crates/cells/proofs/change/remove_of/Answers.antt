@@ -12,13 +12,13 @@ returns-then-refused-ne0 c = kept-as-was c.cells_refusal_at-refused.ensures _ _ 
 
 pub write_block-requires : goal.write_block-requires
 write_block-requires c =
-    let a = f.before.before.before.args in
+    let a = c.args in
     let ok = cells-at-in a.cells.now a.code (sym c.cells_refusal_at-refused.ensures ∙ c.if-refused-ne0.false) in
     (ok.0.long, c.if-code-lt224.true)
 
 pub bounds-cells-code : goal.bounds-cells-code
 bounds-cells-code c =
-    let a = f.before.before.before.args in
+    let a = c.args in
     let ok = cells-at-in a.cells.now a.code (sym c.cells_refusal_at-refused.ensures ∙ c.if-refused-ne0.false) in
     omega (arith, ok.0.long, ok.1)
 

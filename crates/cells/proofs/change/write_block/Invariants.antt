@@ -12,6 +12,10 @@ use borrow.Author.Rules.{rules}
 use borrow.Author.Tests.{eqb-true, eqb-false, ltb-true, ltb-false, lt-ltb, le-ltb}
 use Rattle.cells.proofs.change.write_block.Given as goal
 
+-- the cells when the places below i are written
+abbrev pub written : List ℕ → ℕ → ℕ → ℕ → ℕ → List ℕ
+written cells code value place i = cond (ltb place i) (set cells code value) cells
+
 abbrev pub invariant-loop-i : goal.invariant-loop-i
 invariant-loop-i l = (l.i ≤ 16) × (l.cells ≡ written l.initial.cells l.code l.value l.place l.i)
 

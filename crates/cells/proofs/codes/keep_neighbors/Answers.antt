@@ -17,7 +17,7 @@ pub loop-s-preserved : goal.loop-s-preserved
 loop-s-preserved c =
     let a = c.args in
     let h = c.requires in
-    let fit = near-short a.cells.now a.code a.distance a.only-empty a.d c.loop-s.s in
+    let fit = near-short a.cells.now a.code a.distance a.only_empty a.d c.loop-s.s in
     let found = c.neighbor_at-found in
     let on = c.loop-s-test.true in (
       omega (arith, on),

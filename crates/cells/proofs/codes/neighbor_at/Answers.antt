@@ -19,7 +19,7 @@ overflow_add-at c =
 pub returns-then-at-distance : goal.returns-then-at-distance
 returns-then-at-distance c =
     let a = c.args in
-    near_before a.cells.now a.code a.distance a.only-empty a.d a.s
+    near_before a.cells.now a.code a.distance a.only_empty a.d a.s
     (omega (arith, c.cell_no.ensures, c.if-at-distance.true))
 
 pub returns-then-line_size-at : goal.returns-then-line_size-at
@@ -27,7 +27,7 @@ returns-then-line_size-at c =
     let a = c.args in
     let n = c.cell_no.ensures in
     let size = c.line_size.ensures ∙ ap (line_size a.d) c.line_no-i.ensures in
-    near-past a.cells.now a.code a.distance a.only-empty a.d a.s
+    near-past a.cells.now a.code a.distance a.only_empty a.d a.s
     (omega (arith, n, c.if-at-distance.false)) (omega (arith, n, size, c.if-line_size-at.true))
 
 pub overflow_cast-there : goal.overflow_cast-there
@@ -49,5 +49,5 @@ returns c =
     let a = c.args in
     let size = c.line_size.ensures ∙ ap (line_size a.d) no in
     rw (c.may_name.ensures, c.point_at-there.ensures, no, n)
-    (near-there a.cells.now a.code a.distance a.only-empty a.d a.s
+    (near-there a.cells.now a.code a.distance a.only_empty a.d a.s
     (omega (arith, n, c.if-at-distance.false)) (omega (arith, n, size, c.if-line_size-at.false)))

@@ -18,7 +18,7 @@ keep_neighbors-n-requires c =
     let a = c.args in
     let h = c.requires in
     let on = c.loop-d-test.true in
-    let at = parts-place 225 29 _ (around-short a.cells.now a.code a.distance a.only-empty h.1) c.loop-d.d
+    let at = parts-place 225 29 _ (around-short a.cells.now a.code a.distance a.only_empty h.1) c.loop-d.d
     c.loop-d.invariant.1 in
     (h.0, h.1, on, omega (arith, at, on, wrote-length 225 c.loop-d.invariant.1))
 
@@ -31,5 +31,5 @@ unfolding neighbours
 returns c =
     let a = c.args in
     let h = c.requires in
-    parts-end 225 29 _ (around-short a.cells.now a.code a.distance a.only-empty h.1) c.loop-d.d 4
+    parts-end 225 29 _ (around-short a.cells.now a.code a.distance a.only_empty h.1) c.loop-d.d 4
     (omega arith) (omega arith) c.loop-d.invariant.1

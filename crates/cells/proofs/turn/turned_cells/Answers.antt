@@ -20,7 +20,7 @@ returns c =
     let a = c.args in
     let cells = a.cells.now in
     let back = c.undone-back.result in
-    let from = c.write_out.new.1.0 in
+    let from = c.write_out.new.out in
     let all : c.loop-x.x ≡ 15 = omega (arith, c.loop-x.invariant.0, c.loop-x-test.false) in
     c.loop-x.invariant.1 ∙ ap (λ (n : ℕ). turned_to (15 * n) back from) all
     ∙ ap (λ (v : ℕ). turned_to 225 v from) c.undone-back.ensures
