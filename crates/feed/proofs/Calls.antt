@@ -18,7 +18,7 @@ use Rattle.feed.specs.declared.client.Taken.{Taken}
 use Rattle.feed.specs.declared.server.Server.{Server}
 use Rattle.feed.specs.declared.server.ServerAnswer.{ServerAnswer}
 use Rattle.feed.specs.declared.server.MessageAnswer.{MessageAnswer}
-use Rattle.feed.specs.Runs.{State, begun, Event, adds, takes_back, sends, arrives, asks, hears, served, with_sent, delivered, heard_by, next, run}
+use Rattle.feed.specs.Runs.{State, begun, Event, adds_move, takes_move_back, sends_move, message_arrives, asks_client, hears_answer, served, with_sent, delivered, heard_by, next, run}
 use Rattle.feed.specs.Feed.{refusal_by, takes, held_refusal}
 use Rattle.feed.specs.Runs.{AgreeAt, Quiet}
 use Rattle.feed.proofs.Lent.{Keeps, same-refusal, same_taken, same-refused}
@@ -39,7 +39,7 @@ abbrev pub Answered : {R S : Type 0} → (R → S → Type 0) → R → Type 0
 Answered {S = S} post r = (after : S) × post r after
 
 -- where a call may answer r, the bytes that it then leaves in its list are as said
-abbrev pub Gave : {R S : Type 0} → (R → S → Type 0) → (S → Bor (List ℕ)) → R → (List ℕ → Type 0) → Type 0
+abbrev pub Gave : {R S : Type 0} → (R → S → Type 0) → (S → MutBor (List ℕ)) → R → (List ℕ → Type 0) → Type 0
 Gave {S = S} post lent r said = (after : S) → post r after → said (lent after).now
 
 -- the start: `Server::new`, and `Client::new` for each number
@@ -53,23 +53,23 @@ client-starts κs g h r (s, e) = sym e
 
 module _ (κs : Lfts 0) (s : State) where
   -- `Server::add`, `take_back` and `message`
-  pub adds-called : (code : ℕ) (r : ServerAnswer) → Answered (add.Post κs (s.server, (code, tt))) r → (next s (adds code)).server ≡ r.server
+  pub adds-called : (code : ℕ) (r : ServerAnswer) → Answered (add.Post κs (s.server, (code, tt))) r → (next s (adds_move code)).server ≡ r.server
   unfolding next served
   adds-called code r (_, e) = ap (λ (a : ServerAnswer). a.server) (sym e)
 
-  pub back-called : (r : ServerAnswer) → Answered (take_back.Post κs (s.server, tt)) r → (next s takes_back).server ≡ r.server
+  pub back-called : (r : ServerAnswer) → Answered (take_back.Post κs (s.server, tt)) r → (next s takes_move_back).server ≡ r.server
   unfolding next served
   back-called r (_, e) = ap (λ (a : ServerAnswer). a.server) (sym e)
 
   pub sends-called : (n : ℕ) (r : MessageAnswer) → Answered (message.Post κs (s.server, (n, tt))) r
-      → (next s (sends n)).messages ≡ with_sent r s.messages
+      → (next s (sends_move n)).messages ≡ with_sent r s.messages
   unfolding next
   sends-called n r (_, e) = ap (λ (a : MessageAnswer). with_sent a s.messages) (sym e)
 
   -- `Client::take` of the k-th message on its way: the client after it, and its answer, on its way
   pub takes-called : (k g : ℕ) (m : Message) (ms : List Message) (r : Taken) → drop k s.messages ≡ m ∷ ms
       → Answered (take.Post κs (s.clients g, (m, tt))) r
-      → ((next s (arrives k g)).clients g ≡ r.client) × ((next s (arrives k g)).answers ≡ r.answer ∷ s.answers)
+      → ((next s (message_arrives k g)).clients g ≡ r.client) × ((next s (message_arrives k g)).answers ≡ r.answer ∷ s.answers)
   unfolding next delivered
   takes-called k g m ms r d (_, e) = (
     rw (d, eq-eqb g g refl) (ap (λ (t : Taken). t.client) (sym e)),
@@ -77,13 +77,13 @@ module _ (κs : Lfts 0) (s : State) where
   )
 
   -- `Client::ask`
-  pub asks-called : (g : ℕ) (r : Answer) → Answered (ask.Post κs (s.clients g, tt)) r → (next s (asks g)).answers ≡ r ∷ s.answers
+  pub asks-called : (g : ℕ) (r : Answer) → Answered (ask.Post κs (s.clients g, tt)) r → (next s (asks_client g)).answers ≡ r ∷ s.answers
   unfolding next
   asks-called g r (_, e) = ap (λ (a : Answer). a ∷ s.answers) (sym e)
 
   -- `Server::hear` of the k-th answer on its way
   pub hears-called : (k : ℕ) (a : Answer) (rest : List Answer) (r : Server) → drop k s.answers ≡ a ∷ rest
-      → Answered (hear.Post κs (s.server, (a, tt))) r → (next s (hears k)).server ≡ r
+      → Answered (hear.Post κs (s.server, (a, tt))) r → (next s (hears_answer k)).server ≡ r
   unfolding next heard_by
   hears-called k a rest r d (_, e) = rw d (sym e)
 

@@ -8,15 +8,15 @@ use Rattle.rules.specs.Refusals.{first, unless, code_refusal}
 use Rattle.lent.specs.Lists.{zeros}
 use Rattle.feed.specs.Feed.{list_of, size_of, no_moves, grown, shrunk, add_refusal, new_client, answer_of, take_refusal, after, takes}
 use Rattle.feed.specs.Feed.{new_server, adds_to, takes_back, has_move, message_answer, hears, holds_all}
-use Rattle.feed.specs.Runs.{State, begun, Event, adds, takes_back, sends, repeats, arrives, hears}
+use Rattle.feed.specs.Runs.{State, begun, Event, adds_move, takes_move_back, sends_move, repeats_message, message_arrives, hears_answer}
 use Rattle.feed.specs.Runs.{without, twice, served, delivered, heard_by, next, run, held_in}
 
 -- on its way after these eight: message 2 (a copy), message 1 (a copy), and the answers that tell 1 and 0
 early : List Event
-early = adds 112 ∷ adds 96 ∷ sends 1 ∷ sends 2 ∷ repeats 0 ∷ repeats 2 ∷ arrives 0 7 ∷ arrives 1 7 ∷ []
+early = adds_move 112 ∷ adds_move 96 ∷ sends_move 1 ∷ sends_move 2 ∷ repeats_message 0 ∷ repeats_message 2 ∷ message_arrives 0 7 ∷ message_arrives 1 7 ∷ []
 
 events : List Event
-events = arrives 1 7 ∷ arrives 0 7 ∷ hears 0 ∷ hears 0 ∷ hears 0 ∷ hears 0 ∷ []
+events = message_arrives 1 7 ∷ message_arrives 0 7 ∷ hears_answer 0 ∷ hears_answer 0 ∷ hears_answer 0 ∷ hears_answer 0 ∷ []
 
 abbrev part-way : State
 part-way = run (begun 7) early
@@ -34,9 +34,9 @@ unfolding run next served delivered heard_by without twice begun new_server new_
     first unless adds_to has_move message_answer take_refusal after takes answer_of hears holds_all early events
 all_held = (refl, refl)
 
-after-takeback : ((run at-end (sends 1 ∷ takes_back ∷ arrives 0 8 ∷ [])).server.game ≡ 8)
-    × (held_in (run at-end (sends 1 ∷ takes_back ∷ arrives 0 8 ∷ [])) 8 ≡ [])
-    × (holds_all (run at-end (sends 1 ∷ takes_back ∷ arrives 0 8 ∷ [])).server ≡ false)
+after-takeback : ((run at-end (sends_move 1 ∷ takes_move_back ∷ message_arrives 0 8 ∷ [])).server.game ≡ 8)
+    × (held_in (run at-end (sends_move 1 ∷ takes_move_back ∷ message_arrives 0 8 ∷ [])) 8 ≡ [])
+    × (holds_all (run at-end (sends_move 1 ∷ takes_move_back ∷ message_arrives 0 8 ∷ [])).server ≡ false)
 unfolding run next served delivered heard_by without twice begun new_server new_client no_moves zeros list_of size_of grown shrunk add_refusal code_refusal
     first unless adds_to takes_back has_move message_answer take_refusal after takes answer_of hears holds_all early events
 after-takeback = (refl, refl, refl)

@@ -20,7 +20,7 @@ use Rattle.feed.specs.declared.server.Server.{Server}
 use Rattle.feed.specs.declared.server.MessageAnswer.TheVariants.{Is, Refused}
 use Rattle.feed.specs.Feed.{list_of, size_of, no_moves, grown, shrunk, add_refusal, new_client, answer_of, refusal_by, takes, new_server}
 use Rattle.feed.specs.Feed.{adds_to, last_game, takes_back, message_of, has_move, message_answer}
-use Rattle.feed.specs.Runs.{State, begun, Event, adds, takes_back, sends, loses, repeats, arrives, asks, loses_answer, repeats_answer, hears}
+use Rattle.feed.specs.Runs.{State, begun, Event, adds_move, takes_move_back, sends_move, loses_message, repeats_message, message_arrives, asks_client, loses_answer, repeats_answer, hears_answer}
 use Rattle.feed.specs.Runs.{without, twice, at, with_line, served, with_sent, delivered, heard_by, arrives, heard, next}
 use Rattle.feed.specs.Runs.{held_in, FirstPart}
 use Rattle.feed.proofs.Lists.{list-none, list-grown, codes-grown, list-shrunk}
@@ -424,13 +424,13 @@ back-good s G = go (decide (eqb s.server.game last_game))
 
 pub next-good : (s : State) (e : Event) → Good s → Good (next s e)
 unfolding next
-next-good s (adds code) G = adds-good s code G
-next-good s takes_back G = back-good s G
-next-good s (sends n) G = line-good s _ _ G (said-sent s n G) G.told
-next-good s (loses k) G = line-good s _ _ G (each-without (Said s.server.game s.lists) k s.messages G.said) G.told
-next-good s (repeats k) G = line-good s _ _ G (each_twice (Said s.server.game s.lists) k s.messages G.said) G.told
-next-good s (arrives k g) G = arrives-good s k g G
-next-good s (asks g) G = line-good s _ _ G G.said (told-asked s g G, G.told)
+next-good s (adds_move code) G = adds-good s code G
+next-good s takes_move_back G = back-good s G
+next-good s (sends_move n) G = line-good s _ _ G (said-sent s n G) G.told
+next-good s (loses_message k) G = line-good s _ _ G (each-without (Said s.server.game s.lists) k s.messages G.said) G.told
+next-good s (repeats_message k) G = line-good s _ _ G (each_twice (Said s.server.game s.lists) k s.messages G.said) G.told
+next-good s (message_arrives k g) G = arrives-good s k g G
+next-good s (asks_client g) G = line-good s _ _ G G.said (told-asked s g G, G.told)
 next-good s (loses_answer k) G = line-good s _ _ G G.said (each-without (Told s.clients) k s.answers G.told)
 next-good s (repeats_answer k) G = line-good s _ _ G G.said (each_twice (Told s.clients) k s.answers G.told)
-next-good s (hears k) G = heard-good s k G
+next-good s (hears_answer k) G = heard-good s k G

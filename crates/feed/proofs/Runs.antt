@@ -23,7 +23,7 @@ use Rattle.feed.specs.declared.client.Client.{Client}
 use Rattle.feed.specs.declared.server.Server.{Server}
 use Rattle.feed.specs.Compare.{begins}
 use Rattle.feed.specs.Feed.{list_of, size_of, grown, shrunk, add_refusal, last_game, answer_of, message_of, refusal_by, takes, adds_to, takes_back, hears, holds_all}
-use Rattle.feed.specs.Runs.{State, begun, Event, adds, takes_back, sends, loses, repeats, arrives, asks, loses_answer, repeats_answer, hears}
+use Rattle.feed.specs.Runs.{State, begun, Event, adds_move, takes_move_back, sends_move, loses_message, repeats_message, message_arrives, asks_client, loses_answer, repeats_answer, hears_answer}
 use Rattle.feed.specs.Runs.{served, delivered, heard_by, arrives, heard, next, run}
 use Rattle.feed.specs.Runs.{held_in, FirstPart, Agree, AgreeAt, quiet, Quiet, messages_from, missing_at, Brings, Receives}
 use Rattle.feed.proofs.Begins.{part-begins}
@@ -100,20 +100,20 @@ module _ (g : ℕ) (es : List Event) where
 -- the list of a game that the server has left, or not yet opened, stands as it is
 pub left-stands : (s : State) (e : Event) (h : ℕ) → (h ≡ (next s e).server.game → ⊥) → (next s e).lists h ≡ s.lists h
 unfolding next served delivered heard_by
-left-stands s (adds code) h d = rw (ne_eqb h (adds_to s.server code).server.game d)
-left-stands s takes_back h d = rw (ne_eqb h (takes_back s.server).server.game d)
-left-stands s (sends n) h d = refl
-left-stands s (loses k) h d = refl
-left-stands s (repeats k) h d = refl
-left-stands s (arrives k g) h d = go (drop k s.messages)
+left-stands s (adds_move code) h d = rw (ne_eqb h (adds_to s.server code).server.game d)
+left-stands s takes_move_back h d = rw (ne_eqb h (takes_back s.server).server.game d)
+left-stands s (sends_move n) h d = refl
+left-stands s (loses_message k) h d = refl
+left-stands s (repeats_message k) h d = refl
+left-stands s (message_arrives k g) h d = go (drop k s.messages)
   where
     go : (l : List Message) → (arrives s k g l).lists h ≡ s.lists h
     go [] = refl
     go (m ∷ l) = refl
-left-stands s (asks g) h d = refl
+left-stands s (asks_client g) h d = refl
 left-stands s (loses_answer k) h d = refl
 left-stands s (repeats_answer k) h d = refl
-left-stands s (hears k) h d = go (drop k s.answers)
+left-stands s (hears_answer k) h d = go (drop k s.answers)
   where
     go : (l : List Answer) → (heard s k l).lists h ≡ s.lists h
     go [] = refl
@@ -122,7 +122,7 @@ left-stands s (hears k) h d = go (drop k s.answers)
 -- ---- (4) a message that is refused changes no client
 
 pub refused-keeps : (s : State) (k g : ℕ) (m : Message) (ms : List Message) → drop k s.messages ≡ m ∷ ms
-    → (refusal_by (s.clients g) m ≡ 0 → ⊥) → (h : ℕ) → (next s (arrives k g)).clients h ≡ s.clients h
+    → (refusal_by (s.clients g) m ≡ 0 → ⊥) → (h : ℕ) → (next s (message_arrives k g)).clients h ≡ s.clients h
 unfolding next delivered
 refused-keeps s k g m ms e d h =
     rw e
@@ -131,7 +131,7 @@ refused-keeps s k g m ms e d h =
 
 -- .. and no message of another game changes one
 pub foreign-keeps : (g : ℕ) (es : List Event) (k h : ℕ) (m : Message) (ms : List Message) → drop k (run (begun g) es).messages ≡ m ∷ ms
-    → (m.game ≡ h → ⊥) → (i : ℕ) → (next (run (begun g) es) (arrives k h)).clients i ≡ (run (begun g) es).clients i
+    → (m.game ≡ h → ⊥) → (i : ℕ) → (next (run (begun g) es) (message_arrives k h)).clients i ≡ (run (begun g) es).clients i
 unfolding next delivered
 foreign-keeps g es k h m ms e d i =
     let s = run (begun g) es in
@@ -169,20 +169,20 @@ same-server v = record { game = refl; moves = refl; heard = omega arith }
 
 next-quiet : (s : State) (e : Event) → T (quiet e) → Heard s.server (next s e).server
 unfolding next delivered heard_by
-next-quiet s (adds code) q = absurd q
-next-quiet s takes_back q = absurd q
-next-quiet s (sends n) q = same-server s.server
-next-quiet s (loses k) q = same-server s.server
-next-quiet s (repeats k) q = same-server s.server
-next-quiet s (arrives k g) q = go (drop k s.messages)
+next-quiet s (adds_move code) q = absurd q
+next-quiet s takes_move_back q = absurd q
+next-quiet s (sends_move n) q = same-server s.server
+next-quiet s (loses_message k) q = same-server s.server
+next-quiet s (repeats_message k) q = same-server s.server
+next-quiet s (message_arrives k g) q = go (drop k s.messages)
   where
     go : (l : List Message) → Heard s.server (arrives s k g l).server
     go [] = same-server s.server
     go (m ∷ l) = same-server s.server
-next-quiet s (asks g) q = same-server s.server
+next-quiet s (asks_client g) q = same-server s.server
 next-quiet s (loses_answer k) q = same-server s.server
 next-quiet s (repeats_answer k) q = same-server s.server
-next-quiet s (hears k) q = go (drop k s.answers)
+next-quiet s (hears_answer k) q = go (drop k s.answers)
   where
     go : (l : List Answer) → Heard s.server (heard s k l).server
     go [] = same-server s.server
@@ -234,7 +234,7 @@ module _ (g : ℕ) (es ds : List Event) (full-count : holds_all (run (begun g) e
 -- the server that hears the full count under its number says so
 pub hears-all : (g : ℕ) (es : List Event) (k : ℕ) (a : Answer) (r : List Answer) → drop k (run (begun g) es).answers ≡ a ∷ r
     → a.game ≡ (run (begun g) es).server.game → a.count ≡ size_of (run (begun g) es).server.moves
-    → holds_all (next (run (begun g) es) (hears k)).server ≡ true
+    → holds_all (next (run (begun g) es) (hears_answer k)).server ≡ true
 unfolding next heard_by holds_all
 hears-all g es k a r e own told =
     let s = run (begun g) es in
@@ -257,20 +257,20 @@ tells_all g es both =
 -- no client ever holds fewer moves
 next-size : (s : State) (e : Event) → Good s → (h : ℕ) → size_of (s.clients h).moves ≤ size_of ((next s e).clients h).moves
 unfolding next served delivered heard_by
-next-size s (adds code) G h = omega arith
-next-size s takes_back G h = omega arith
-next-size s (sends n) G h = omega arith
-next-size s (loses k) G h = omega arith
-next-size s (repeats k) G h = omega arith
-next-size s (arrives k g) G h = go (drop k s.messages) refl
+next-size s (adds_move code) G h = omega arith
+next-size s takes_move_back G h = omega arith
+next-size s (sends_move n) G h = omega arith
+next-size s (loses_message k) G h = omega arith
+next-size s (repeats_message k) G h = omega arith
+next-size s (message_arrives k g) G h = go (drop k s.messages) refl
   where
     go : (l : List Message) → drop k s.messages ≡ l → size_of (s.clients h).moves ≤ size_of ((arrives s k g l).clients h).moves
     go [] e = omega arith
     go (m ∷ l) e = more s k g m G (each_at (Said s.server.game s.lists) k s.messages m l G.said e) h
-next-size s (asks g) G h = omega arith
+next-size s (asks_client g) G h = omega arith
 next-size s (loses_answer k) G h = omega arith
 next-size s (repeats_answer k) G h = omega arith
-next-size s (hears k) G h = go (drop k s.answers)
+next-size s (hears_answer k) G h = go (drop k s.answers)
   where
     go : (l : List Answer) → size_of (s.clients h).moves ≤ size_of ((heard s k l).clients h).moves
     go [] = omega arith
@@ -315,20 +315,20 @@ reaches s v k G eg em low high = go (decide (eqb (size_of c.moves) k))
 brought : (s : State) (g : ℕ) (m : Message) (e : Event) (n : ℕ) → Brings s g m e → n ≤ size_of (takes (s.clients g) m).client.moves
     → n ≤ size_of ((next s e).clients g).moves
 unfolding next delivered
-brought s g m (adds code) n b h = absurd b
-brought s g m takes_back n b h = absurd b
-brought s g m (sends k) n b h = absurd b
-brought s g m (loses k) n b h = absurd b
-brought s g m (repeats k) n b h = absurd b
-brought s g m (arrives k i) n b h = go (drop k s.messages) b.1
+brought s g m (adds_move code) n b h = absurd b
+brought s g m takes_move_back n b h = absurd b
+brought s g m (sends_move k) n b h = absurd b
+brought s g m (loses_message k) n b h = absurd b
+brought s g m (repeats_message k) n b h = absurd b
+brought s g m (message_arrives k i) n b h = go (drop k s.messages) b.1
   where
     go : (l : List Message) → take 1 l ≡ m ∷ [] → n ≤ size_of ((arrives s k i l).clients g).moves
     go [] e = let z : ◌≡◌ {A = ℕ} 0 1 = ap length e in absurd (omega arith)
     go (x ∷ l) e = let q : x ≡ m = cc in rw (b.0, q, eq-eqb g g refl) h
-brought s g m (asks k) n b h = absurd b
+brought s g m (asks_client k) n b h = absurd b
 brought s g m (loses_answer k) n b h = absurd b
 brought s g m (repeats_answer k) n b h = absurd b
-brought s g m (hears k) n b h = absurd b
+brought s g m (hears_answer k) n b h = absurd b
 
 -- messages k + 1 to k + n arrive in order, at a client that held k moves or more
 gets : (ds : List Event) (s : State) (v : Server) (k n : ℕ) → Good s → Quiet ds → s.server.game ≡ v.game
@@ -368,27 +368,27 @@ game-either false v w h = omega arith
 
 pub number-grows : (s : State) (e : Event) → s.server.game ≤ (next s e).server.game
 unfolding next served adds_to takes_back heard_by hears delivered
-number-grows s (adds code) =
+number-grows s (adds_move code) =
     game-either (eqb (add_refusal (size_of s.server.moves) code) 0) s.server
     (record { game = s.server.game; moves = grown s.server.moves code; heard = s.server.heard }) (omega arith)
-number-grows s takes_back = go (eqb s.server.game last_game)
+number-grows s takes_move_back = go (eqb s.server.game last_game)
   where
     go : (b : Bool)
         → s.server.game ≤ (cond b s.server (record { game = s.server.game + 1; moves = shrunk s.server.moves; heard = 0 })).game
     go true = omega arith
     go false = omega arith
-number-grows s (sends n) = omega arith
-number-grows s (loses k) = omega arith
-number-grows s (repeats k) = omega arith
-number-grows s (arrives k g) = go (drop k s.messages)
+number-grows s (sends_move n) = omega arith
+number-grows s (loses_message k) = omega arith
+number-grows s (repeats_message k) = omega arith
+number-grows s (message_arrives k g) = go (drop k s.messages)
   where
     go : (ms : List Message) → s.server.game ≤ (arrives s k g ms).server.game
     go [] = omega arith
     go (m ∷ ms) = omega arith
-number-grows s (asks g) = omega arith
+number-grows s (asks_client g) = omega arith
 number-grows s (loses_answer k) = omega arith
 number-grows s (repeats_answer k) = omega arith
-number-grows s (hears k) = go (drop k s.answers)
+number-grows s (hears_answer k) = go (drop k s.answers)
   where
     go : (told : List Answer) → s.server.game ≤ (heard s k told).server.game
     go [] = omega arith

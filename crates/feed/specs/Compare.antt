@@ -24,7 +24,7 @@ missing_part a b = cond (begins b a) (drop (length b) a) (cond (begins a b) (dro
 
 -- "the caller's own part": where it lies. What is behind the first n bytes of a lent list lies in the same block, n bytes on
 unfoldable pub behind : Bor (List ℕ) → ℕ → ℕ × ℕ
-behind r n = (r.ptr.0, n + r.ptr.1)
+behind r n = (r.ref_ptr.0, n + r.ref_ptr.1)
 
 unfoldable pub missing_place : Bor (List ℕ) → Bor (List ℕ) → ℕ × ℕ
 missing_place a b =

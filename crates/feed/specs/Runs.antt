@@ -33,19 +33,19 @@ begun game = record { server = new_server game; lists = λ g. []; clients = new_
 -- Of what is on its way anything may come next: k is its place there, from 0; where there is nothing at that place, nothing happens.
 pub data Event : Type 0 where
   -- the server adds a move; takes its last one back; sends the message of move n
-  adds : ℕ → Event
-  takes_back : Event
-  sends : ℕ → Event
+  adds_move : ℕ → Event
+  takes_move_back : Event
+  sends_move : ℕ → Event
   -- a message is lost; is there once more; arrives at the client of game g, which answers
-  loses : ℕ → Event
-  repeats : ℕ → Event
-  arrives : ℕ → ℕ → Event
+  loses_message : ℕ → Event
+  repeats_message : ℕ → Event
+  message_arrives : ℕ → ℕ → Event
   -- the client of game g is only asked
-  asks : ℕ → Event
+  asks_client : ℕ → Event
   -- an answer is lost; is there once more; is heard by the server
   loses_answer : ℕ → Event
   repeats_answer : ℕ → Event
-  hears : ℕ → Event
+  hears_answer : ℕ → Event
 
 -- what is on its way, without the k-th, and with the k-th twice
 unfoldable pub without : {A : Type 0} → ℕ → List A → List A
@@ -112,16 +112,16 @@ heard s k (a ∷ told) = heard_by s k a
 
 -- the moment after an event
 unfoldable pub next : State → Event → State
-next s (adds code) = served s (adds_to s.server code).server
-next s takes_back = served s (takes_back s.server).server
-next s (sends n) = with_line s (with_sent (message_answer s.server n) s.messages) s.answers
-next s (loses k) = with_line s (without k s.messages) s.answers
-next s (repeats k) = with_line s (twice k s.messages) s.answers
-next s (arrives k g) = arrives s k g (drop k s.messages)
-next s (asks g) = with_line s s.messages (answer_of (s.clients g) ∷ s.answers)
+next s (adds_move code) = served s (adds_to s.server code).server
+next s takes_move_back = served s (takes_back s.server).server
+next s (sends_move n) = with_line s (with_sent (message_answer s.server n) s.messages) s.answers
+next s (loses_message k) = with_line s (without k s.messages) s.answers
+next s (repeats_message k) = with_line s (twice k s.messages) s.answers
+next s (message_arrives k g) = arrives s k g (drop k s.messages)
+next s (asks_client g) = with_line s s.messages (answer_of (s.clients g) ∷ s.answers)
 next s (loses_answer k) = with_line s s.messages (without k s.answers)
 next s (repeats_answer k) = with_line s s.messages (twice k s.answers)
-next s (hears k) = heard s k (drop k s.answers)
+next s (hears_answer k) = heard s k (drop k s.answers)
 
 -- the moment after some events, one after the other: any events, in any order
 unfoldable pub run : State → List Event → State
@@ -151,16 +151,16 @@ AgreeAt s = Agree (held_in s s.server.game) (list_of s.server.moves)
 
 -- "until it adds a move" or takes one back: events that leave the server's list as it is
 abbrev pub quiet : Event → Bool
-quiet (adds code) = false
-quiet takes_back = false
-quiet (sends n) = true
-quiet (loses k) = true
-quiet (repeats k) = true
-quiet (arrives k g) = true
-quiet (asks g) = true
+quiet (adds_move code) = false
+quiet takes_move_back = false
+quiet (sends_move n) = true
+quiet (loses_message k) = true
+quiet (repeats_message k) = true
+quiet (message_arrives k g) = true
+quiet (asks_client g) = true
 quiet (loses_answer k) = true
 quiet (repeats_answer k) = true
-quiet (hears k) = true
+quiet (hears_answer k) = true
 
 abbrev pub Quiet : List Event → Type 0
 Quiet [] = Unit {0}
@@ -178,16 +178,16 @@ missing_at s =
 
 -- by this event message m arrives at the client of game g
 abbrev pub Brings : State → ℕ → Message → Event → Type 0
-Brings s g m (adds code) = ⊥
-Brings s g m takes_back = ⊥
-Brings s g m (sends n) = ⊥
-Brings s g m (loses k) = ⊥
-Brings s g m (repeats k) = ⊥
-Brings s g m (arrives k h) = (h ≡ g) × (take 1 (drop k s.messages) ≡ m ∷ [])
-Brings s g m (asks h) = ⊥
+Brings s g m (adds_move code) = ⊥
+Brings s g m takes_move_back = ⊥
+Brings s g m (sends_move n) = ⊥
+Brings s g m (loses_message k) = ⊥
+Brings s g m (repeats_message k) = ⊥
+Brings s g m (message_arrives k h) = (h ≡ g) × (take 1 (drop k s.messages) ≡ m ∷ [])
+Brings s g m (asks_client h) = ⊥
 Brings s g m (loses_answer k) = ⊥
 Brings s g m (repeats_answer k) = ⊥
-Brings s g m (hears k) = ⊥
+Brings s g m (hears_answer k) = ⊥
 
 -- "receives every missing message in order": these messages arrive at the client of game g one after the other, whatever else happens in between
 abbrev pub Receives : State → ℕ → List Message → List Event → Type 0

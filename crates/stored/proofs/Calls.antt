@@ -13,6 +13,7 @@ use lib.Seq.{take_at}
 use borrow.Author.Tests.{eqb-true}
 use contract.Lifetimes.{Lfts}
 use denote.Ref.{Bor}
+use denote.MutBor.{MutBor}
 use Rattle.rules.specs.Refusals.{no_room, unless}
 use Rattle.rules.specs.Answers.{count_answer, number_answer}
 use Rattle.rules.specs.declared.answer.CountAnswer.{CountAnswer}
@@ -34,15 +35,15 @@ use Rattle.stored.proofs.front.tagged_view.Reads as tagged-view
 -- ---- what is claimed
 
 -- a call gave a count n, and the first n bytes of its buffer after it are these; a call gave some answer
-abbrev pub Gave : {S : Type 0} → (CountAnswer → S → Type 0) → (S → Bor (List ℕ)) → ℕ → List ℕ → Type 0
+abbrev pub Gave : {S : Type 0} → (CountAnswer → S → Type 0) → (S → MutBor (List ℕ)) → ℕ → List ℕ → Type 0
 Gave {S} post lent n front = (after : S) × post (count.Is n) after × (front ≡ take n (lent after).now)
 
 abbrev pub Answered : {R S : Type 0} → (R → S → Type 0) → R → Type 0
 Answered {S = S} post r = (after : S) × post r after
 
 -- Where one call gave a count, and the next is handed the bytes that it left, the next gives the list a, and refuses only 13.
-abbrev pub GoesThrough : {S S' : Type 0} → (CountAnswer → S → Type 0) → (S → Bor (List ℕ)) → List ℕ → (CountAnswer → S' → Type 0)
-    → (S' → Bor (List ℕ)) → List ℕ → List ℕ → Type 0
+abbrev pub GoesThrough : {S S' : Type 0} → (CountAnswer → S → Type 0) → (S → MutBor (List ℕ)) → List ℕ → (CountAnswer → S' → Type 0)
+    → (S' → MutBor (List ℕ)) → List ℕ → List ℕ → Type 0
 GoesThrough {S' = S'} one lent handed next lent' out a =
     (n : ℕ) (r : CountAnswer) (after : S') → Gave one lent n handed → next r after
     → (r ≡ counted 1 0 out a) × ((lent' after).now ≡ list_out 0 out a)
@@ -88,7 +89,7 @@ taken_back moves bytes out told is next =
     let (free, back) = old-new-old moves told in
     through out (ap back_refusal is ∙ free) (ap stored_moves is ∙ back) next
 
-module _ (κs κs' : Lfts 2) (out out' : Bor (List ℕ)) where
+module _ (κs κs' : Lfts 2) (out out' : MutBor (List ℕ)) where
   -- Old to new to old gives the same bytes.
   pub old-new-old-called : (moves bytes : Bor (List ℕ)) → GoesThrough
       (old-to-tagged.Post κs (moves, (out, tt))) (λ s. s.1.0) bytes.now
@@ -132,7 +133,7 @@ module _ (κs κs' : Lfts 2) (out out' : Bor (List ℕ)) where
       through out'.now (tagged-old moves.now ∙ free) back next
 
 -- What the general writer writes has the view that it was handed.
-pub written-view-called : (κs : Lfts 2) (κ : Lfts 1) (moves bytes out : Bor (List ℕ)) (view n : ℕ) (r : NumberAnswer)
+pub written-view-called : (κs : Lfts 2) (κ : Lfts 1) (moves bytes : Bor (List ℕ)) (out : MutBor (List ℕ)) (view n : ℕ) (r : NumberAnswer)
     → Gave (to-tagged.Post κs (moves, (view, (out, tt)))) (λ s. s.1.1.0) n bytes.now
     → Answered (tagged-view.Post κ (bytes, tt)) r → r ≡ number.Is view
 unfolding number_answer

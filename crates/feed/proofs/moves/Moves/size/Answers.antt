@@ -1,0 +1,19 @@
+-- `feed::moves::Moves::size` meets its contract: the count, but no more than there are codes. Assumes nothing.
+use mathlib.Core.Path.{◌≡◌}
+use native.Mathlib.Omega.{arith}
+use lib.ListN.{length}
+use borrow.Author.Rules.{rules}
+use Rattle.feed.proofs.Lists.{size-least}
+use Rattle.feed.proofs.moves.Moves.size.Goals as goal
+
+pub returns-then-self-lt225 : goal.returns-then-self-lt225
+returns-then-self-lt225 c =
+    let l = c.args.self in
+    let e : length l.codes ≡ 225 = search rules in
+    omega (arith, size-least l)
+
+pub returns-else-self-lt225 : goal.returns-else-self-lt225
+returns-else-self-lt225 c =
+    let l = c.args.self in
+    let e : length l.codes ≡ 225 = search rules in
+    omega (arith, size-least l)

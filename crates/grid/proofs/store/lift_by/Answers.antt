@@ -1,0 +1,13 @@
+-- `grid::store::lift_by` meets its contract: four bits cleared, one after the other. Assumes nothing.
+use Rattle.grid.specs.Lines.{mark_by}
+use borrow.Author.Rules.{rules}
+use Rattle.grid.proofs.store.lift_by.Goals as goal
+
+pub returns : goal.returns
+unfolding mark_by
+returns c = rw (
+  c.mark_along-4.ensures,
+  c.mark_along-3.ensures,
+  c.mark_along-2.ensures,
+  c.mark_along.ensures,
+)

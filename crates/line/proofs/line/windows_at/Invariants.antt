@@ -1,0 +1,19 @@
+-- `line::line::windows_at` meets its contract: after j turns the starts below j are collected with their segments. Assumes nothing.
+use mathlib.Core.List.{[], ◌∷◌}
+use Prim.Native.Nat.{◌-◌, ◌≤◌}
+use native.Mathlib.Omega.{arith}
+use borrow.Author.Rules.{rules}
+use Rattle.rules.specs.Tools.{gather}
+use Rattle.rules.specs.Bit.{bit}
+use Rattle.lent.specs.Lists.{zeros, Wrote}
+use Rattle.lent.proofs.Laws.{wrote-start, wrote-length, gather-step, gather-end}
+use Rattle.line.specs.Lists.{window_item, window_list}
+use Rattle.line.proofs.Lines.{windows-short}
+use Rattle.line.proofs.line.windows_at.Given as goal
+
+abbrev pub invariant-loop-j : goal.invariant-loop-j
+invariant-loop-j l = (l.j ≤ 16) × Wrote (zeros 48) 0
+    (gather l.j (window_item (bit l.blacks) (bit l.whites) (bit l.starts))) l.bytes l.n
+
+abbrev pub decreases-loop-j : goal.decreases-loop-j
+decreases-loop-j l = 16 - l.j

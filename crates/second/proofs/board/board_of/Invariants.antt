@@ -1,0 +1,16 @@
+-- `second::board::board_of` meets its contract: after p turns the cells below p are put. Assumes nothing.
+use mathlib.Core.Path.{◌≡◌, refl, ap, sym, ◌∙◌}
+use Prim.Native.Nat.{◌≤◌, ◌-◌}
+use native.Mathlib.Omega.{arith}
+use lib.ListN.{get_or}
+use borrow.Author.Rules.{rules}
+use Rattle.rules.proofs.Lists.{is-tab}
+use Rattle.lent.specs.Lists.{zeros}
+use Rattle.cells.proofs.Filled.{filled, filled_none, filled_more, filled-all}
+use Rattle.second.proofs.board.board_of.Given as goal
+
+abbrev pub invariant-loop-p : goal.invariant-loop-p
+invariant-loop-p l = (l.p ≤ 225) × (l.board ≡ filled 225 (λ q. get_or l.cells q 0) l.p)
+
+abbrev pub decreases-loop-p : goal.decreases-loop-p
+decreases-loop-p l = 225 - l.p

@@ -1,0 +1,9 @@
+-- `second::line::cell_no` meets its contract: the steps back are the cells before the point. Assumes nothing.
+use borrow.Author.Rules.{rules}
+use Rattle.second.proofs.Walks.{back-cells}
+use Rattle.second.proofs.line.cell_no.Goals as goal
+
+pub returns : goal.returns
+returns c =
+    simp (c.by_direction.ensures, c.least.ensures, c.least-2.ensures)
+    (back-cells c.args.d c.args.code c.requires.0 c.requires.1)
