@@ -31,7 +31,7 @@ pub(crate) fn depth_on(lines: &mut [u16; 144], code: u8) -> u8
 }
 
 // "1 where nothing nested is asked; else one more than the deepest question": at an empty point, by the rows through it.
-#[cycle(deepest_eye_depth_by_eye_depth_trial_depth)]
+#[cycle(depths)]
 fn depth_by(lines: &mut [u16; 144], table: &[u16; 900], code: u8, rows: Rows) -> u8
     requires { Sound lines.old × (code < 225) × (get_or (cells_of lines.old) code 0 ≡ 0)
         × RowsAre (black_rows (cells_of lines.old) code) rows × (table.now ≡ addresses) }
@@ -46,7 +46,7 @@ fn depth_by(lines: &mut [u16; 144], table: &[u16; 900], code: u8, rows: Rows) ->
 
 // "on the board with the stone": it is put, the eyes are asked about, and it is taken off. The Twos through the point are then the Threes.
 // (By `mark_by`: were `lift_by` called from here too, it would no longer be compiled into the referee's cycle.)
-#[cycle(deepest_eye_depth_by_eye_depth_trial_depth)]
+#[cycle(depths)]
 fn trial_depth(lines: &mut [u16; 144], table: &[u16; 900], code: u8, twos: [u16; 4]) -> u8
     requires { (code < 225) × Triable lines.old code twos × (table.now ≡ addresses) }
     ensures { (result ≡ deepest depth_of (with_black (cells_of lines.old) code) code)
@@ -59,7 +59,7 @@ fn trial_depth(lines: &mut [u16; 144], table: &[u16; 900], code: u8, twos: [u16;
 }
 
 // "the deepest question at the eye of any Three through the point ..., also those after the answer is known": all of them, by their numbers.
-#[cycle(deepest_eye_depth_by_eye_depth_trial_depth)]
+#[cycle(depths)]
 fn deepest_eye(lines: &mut [u16; 144], table: &[u16; 900], code: u8, threes: [u16; 4]) -> u8
     requires { Sound lines.old × (code < 225) × (threes ≡ start_masks (rows_through Black Three (cells_of lines.old) code))
         × (table.now ≡ addresses) }
@@ -76,7 +76,7 @@ fn deepest_eye(lines: &mut [u16; 144], table: &[u16; 900], code: u8, threes: [u1
 }
 
 // "an eye that completes a five counts 1". One look at the rows through the eye tells the five and, handed on, the depth. An eye is empty.
-#[cycle(deepest_eye_depth_by_eye_depth_trial_depth)]
+#[cycle(depths)]
 fn eye_depth(lines: &mut [u16; 144], table: &[u16; 900], code: u8, three: u8) -> u8
     requires { Sound lines.old × (code < 225) × (three < 64)
         × T (rows_through Black Three (cells_of lines.old) code (three / 16) (three % 16)) × (table.now ≡ addresses) }

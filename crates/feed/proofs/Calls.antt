@@ -6,6 +6,7 @@ use mathlib.Core.List.{List, ◌∷◌}
 use Prim.Native.Nat.{ℕ, ◌+◌, ◌≤◌}
 use contract.Lifetimes.{Lfts}
 use denote.Ref.{Bor}
+use denote.MutBor.{MutBor}
 use lib.ListN.{length, drop}
 use borrow.Author.Tests.{eq-eqb, ne_eqb}
 use Rattle.rules.specs.Answers.{count_answer}
@@ -94,7 +95,7 @@ pub holds-all-called : (κs : Lfts 0) (g : ℕ) (es ds : List Event) → Answere
 holds-all-called κs g es ds (_, e) still = all_held g es ds (sym e) still
 
 -- `take_held` at a client whose list is lent: it answers and leaves what the client by value does
-pub held-called : (κs : Lfts 1) (c : Client) (held : Bor (List ℕ)) (count : ℕ) (m : Message) → length c.moves.codes ≡ 225
+pub held-called : (κs : Lfts 1) (c : Client) (held : MutBor (List ℕ)) (count : ℕ) (m : Message) → length c.moves.codes ≡ 225
     → 225 ≤ length held.now → Keeps held.now count c → (r : CountAnswer)
     → Gave (take-held.Post κs (c.game, (held, (count, (m, tt))))) (λ s. s.1.0) r (λ left.
     (refusal_by c m ≡ 0 → (r ≡ Is (count + 1)) × Keeps left (count + 1) (takes c m).client)

@@ -14,7 +14,7 @@ use rules::Player;
 
 // The first line of at most `left` attacks, written to `out` from place `at` on; how many points it has. No point is tried but those of
 // `tries`.
-#[cycle(attack_on_forced_on_plan_on)]
+#[cycle(search)]
 pub(crate) fn plan_on(
     lines: &mut [u16; 144],
     table: &[u16; 900],
@@ -45,7 +45,7 @@ pub(crate) fn plan_on(
 }
 
 // The first line that begins with an attack at a point.
-#[cycle(attack_on_forced_on_plan_on)]
+#[cycle(search)]
 fn attack_on(
     lines: &mut [u16; 144],
     table: &[u16; 900],
@@ -73,7 +73,7 @@ fn attack_on(
 }
 
 // .. and goes on after the reply that it forces.
-#[cycle(attack_on_forced_on_plan_on)]
+#[cycle(search)]
 fn forced_on(
     lines: &mut [u16; 144],
     table: &[u16; 900],

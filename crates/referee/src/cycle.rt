@@ -31,7 +31,7 @@ pub(crate) fn strict(lines: &mut [u16; 144], table: &[u16; 900], code: u8) -> Ve
 }
 
 // .. by the rows that go through the empty point. Here and in `plain` the lines are asked only where more than one Two goes through it.
-#[cycle(is_real_open_asked_plain_strict_by_trial_two_real)]
+#[cycle(questions)]
 pub(crate) fn strict_by(lines: &mut [u16; 144], table: &[u16; 900], code: u8, rows: Rows) -> Verdict
     requires { (code < 225) × (T (more_than_one (starts_of rows.twos)) → Triable lines.old code rows.twos)
         × (table.now ≡ addresses) }
@@ -45,7 +45,7 @@ pub(crate) fn strict_by(lines: &mut [u16; 144], table: &[u16; 900], code: u8, ro
 }
 
 // "The plain verdict at an empty p, first that applies". "Nothing is asked after the first kind that applies."
-#[cycle(is_real_open_asked_plain_strict_by_trial_two_real)]
+#[cycle(questions)]
 pub(crate) fn plain(lines: &mut [u16; 144], table: &[u16; 900], code: u8, rows: Rows) -> Verdict
     requires { (code < 225) × (T (more_than_one (starts_of rows.twos)) → Triable lines.old code rows.twos)
         × (table.now ≡ addresses) }
@@ -70,7 +70,7 @@ pub(crate) fn plain(lines: &mut [u16; 144], table: &[u16; 900], code: u8, rows: 
 
 // "on the board with Black at p more than one real Three through p": the stone is put, the question asked, the stone taken off. The Twos
 // through the point are then the Threes.
-#[cycle(is_real_open_asked_plain_strict_by_trial_two_real)]
+#[cycle(questions)]
 fn trial(lines: &mut [u16; 144], table: &[u16; 900], code: u8, twos: [u16; 4]) -> bool
     requires { (code < 225) × Triable lines.old code twos × (table.now ≡ addresses) }
     ensures { (result ≡ real_double strict_of (with_black (cells_of lines.old) code) code)
@@ -84,7 +84,7 @@ fn trial(lines: &mut [u16; 144], table: &[u16; 900], code: u8, twos: [u16; 4]) -
 
 // Whether more than one of the Threes through the stone at a point is real. The eyes are looked at first, all of them; what is left open is
 // asked about.
-#[cycle(is_real_open_asked_plain_strict_by_trial_two_real)]
+#[cycle(questions)]
 pub(crate) fn two_real(
     lines: &mut [u16; 144],
     table: &[u16; 900],
@@ -100,7 +100,7 @@ pub(crate) fn two_real(
 }
 
 // .. by what the looks told: the Threes that they left open are asked about in order, until it is known.
-#[cycle(is_real_open_asked_plain_strict_by_trial_two_real)]
+#[cycle(questions)]
 fn open_asked(lines: &mut [u16; 144], table: &[u16; 900], code: u8, seen: Known) -> bool
     requires { Sound lines.old × (code < 225) × KnownOf (cells_of lines.old) code seen.sure seen.left
         × (table.now ≡ addresses) }
@@ -123,7 +123,7 @@ fn open_asked(lines: &mut [u16; 144], table: &[u16; 900], code: u8, seen: Known)
 // "a Three is real when its eye completes no black five on that board and the strict verdict there is none, at every level of nesting"
 // (document 02, No. 6). The rows through the eye tell the five and, handed on, the verdict. An eye is empty. (`open_asked` asks only of
 // eyes that complete none; the contract is of every Three.)
-#[cycle(is_real_open_asked_plain_strict_by_trial_two_real)]
+#[cycle(questions)]
 fn is_real(lines: &mut [u16; 144], table: &[u16; 900], code: u8, three: u8) -> bool
     requires { Sound lines.old × (code < 225) × (three < 64)
         × T (rows_through Black Three (cells_of lines.old) code (three / 16) (three % 16)) × (table.now ≡ addresses) }

@@ -28,7 +28,7 @@ pub(crate) fn strict(board: &mut [u8; 225], code: u8) -> Verdict
 }
 
 // .. at an empty point, by the count of the Fours through it.
-#[cycle(count_real_count_real_along_is_double_three_is_real_plain_strict_by)]
+#[cycle(questions)]
 fn strict_by(board: &mut [u8; 225], code: u8, fours: u8) -> Verdict
     requires { Cells board.old × (code < 225) × (get_or board.old code 0 ≡ 0)
         × (fours ≡ row_count (rows_through Black Four board.old code)) }
@@ -42,7 +42,7 @@ fn strict_by(board: &mut [u8; 225], code: u8, fours: u8) -> Verdict
 
 // "The plain verdict at an empty p, first that applies: 1. Overline: some line has an Overlining through p. 2. DoubleFour: more than one
 // Sword through p. 3. DoubleThree". "Nothing is asked after the first kind that applies."
-#[cycle(count_real_count_real_along_is_double_three_is_real_plain_strict_by)]
+#[cycle(questions)]
 pub(crate) fn plain(board: &mut [u8; 225], code: u8) -> Verdict
     requires { Cells board.old × (code < 225) × (get_or board.old code 0 ≡ 0) }
     ensures { (result ≡ plain_of board.old code) × (board.new ≡ board.old) }
@@ -60,7 +60,7 @@ pub(crate) fn plain(board: &mut [u8; 225], code: u8) -> Verdict
 }
 
 // "DoubleThree: more than one Two through p, and on the board with Black at p more than one real Three through p."
-#[cycle(count_real_count_real_along_is_double_three_is_real_plain_strict_by)]
+#[cycle(questions)]
 fn is_double_three(board: &mut [u8; 225], code: u8) -> bool
     requires { Cells board.old × (code < 225) × (get_or board.old code 0 ≡ 0) }
     ensures { (result ≡ is_double_three strict_of board.old code) × (board.new ≡ board.old) }
@@ -76,7 +76,7 @@ fn is_double_three(board: &mut [u8; 225], code: u8) -> bool
 }
 
 // Black's real Threes through the stone at a point, counted so that two or more is more than one.
-#[cycle(count_real_count_real_along_is_double_three_is_real_plain_strict_by)]
+#[cycle(questions)]
 fn count_real(board: &mut [u8; 225], code: u8) -> u8
     requires { Cells board.old × (code < 225) }
     ensures { (result ≡ row_count (real_threes strict_of board.old code)) × (board.new ≡ board.old) }
@@ -89,7 +89,7 @@ fn count_real(board: &mut [u8; 225], code: u8) -> u8
 }
 
 // Those on one line, as in `count`.
-#[cycle(count_real_count_real_along_is_double_three_is_real_plain_strict_by)]
+#[cycle(questions)]
 fn count_real_along(board: &mut [u8; 225], d: u8, code: u8) -> u8
     requires { Cells board.old × (d < 4) × (code < 225) }
     ensures { (result ≡ rows_along (real_threes strict_of board.old code d)) × (result < 3)
@@ -110,7 +110,7 @@ fn count_real_along(board: &mut [u8; 225], d: u8, code: u8) -> u8
 
 // Whether a real Three through the point starts at cell j. "a Three is real when its eye completes no black five on that board and the
 // strict verdict there is none, at every level of nesting" (document 02, No. 6). The Fours through the eye are counted once, for both.
-#[cycle(count_real_count_real_along_is_double_three_is_real_plain_strict_by)]
+#[cycle(questions)]
 fn is_real(board: &mut [u8; 225], d: u8, code: u8, j: u8) -> bool
     requires { Cells board.old × (d < 4) × (code < 225) × (j < 16) }
     ensures { (result ≡ real_threes strict_of board.old code d j) × (board.new ≡ board.old) }

@@ -46,3 +46,9 @@ returns c =
     let n : begins a.second.now a.first.now ≡ false = sym c.begins.ensures ∙ c.if-begins.false in
     let e : begins a.first.now a.second.now ≡ false = sym c.begins-2.ensures ∙ c.if-begins-2.false in
     (rw (n, e) (rest-whole a.first.now (length a.first.now) ∙ drop-length a.first.now), rw (n, e))
+
+pub slice_bounds-result-start-then-begins-2 : goal.slice_bounds-result-start-then-begins-2
+slice_bounds-result-start-then-begins-2 c =
+    let a = c.args in
+    let h = begins-fits a.first.now a.second.now (sym c.begins-2.ensures ∙ c.if-begins-2.true) in
+    search rules

@@ -31,3 +31,10 @@ returns c =
     let none = eq-eqb (held_refusal a.game (length a.held.now) a.count a.message) 0
     (sym c.held_refusal-refused.ensures ∙ c.if-refused-ne0.false) in
     (rw none, rw none)
+
+pub overflow_add-result : goal.overflow_add-result
+overflow_add-result c =
+    let a = c.args in
+    let (next, _) =
+        held_none a.game a.count a.message (length a.held.now) (sym c.held_refusal-refused.ensures ∙ c.if-refused-ne0.false) in
+    record { fits = omega (arith, next.room) }

@@ -8,6 +8,7 @@ use Rattle.rules.specs.Point.{line_no}
 use Rattle.rules.specs.Grid.{stone_at}
 use Rattle.second.proofs.Counted.{count_to, count_none, count-one, count_same, count-all}
 use Rattle.second.proofs.window.stones_in.Goals as goal
+use Rattle.second.proofs.window.stones_in.Goals.{then-has_stone, else-has_stone}
 
 pub loop-k-init : goal.loop-k-init
 loop-k-init c = (omega arith, omega arith, count_none _ _)
@@ -18,10 +19,15 @@ loop-k-preserved c =
     let own = stone_at a.player a.board.now a.d (line_no a.d a.code) in
     let k = c.loop-k.k in
     let e = c.loop-k.invariant.2 in
-    ⊎_elim
-    (λ w. (omega arith, omega arith, w.1 ∙ ap (λ (x : ℕ). x + 1) e ∙ count-one own a.j k (sym c.has_stone.ensures ∙ w.0.taken)))
-    (λ w. (omega arith, omega arith, w.1 ∙ e ∙ count_same own a.j k (sym c.has_stone.ensures ∙ w.0.left)))
-    c.if-has_stone.branch
+    elim c.if-has_stone.branch [
+      then-has_stone w ↦ (
+        omega arith,
+        omega arith,
+        w.n-is ∙ ap (λ (x : ℕ). x + 1) e ∙ count-one own a.j k (sym c.has_stone.ensures ∙ w.if-has_stone.true),
+      )
+    | else-has_stone w ↦
+        (omega arith, omega arith, w.n-is ∙ e ∙ count_same own a.j k (sym c.has_stone.ensures ∙ w.if-has_stone.false))
+    ]
 
 pub returns : goal.returns
 returns c =

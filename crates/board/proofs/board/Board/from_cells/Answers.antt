@@ -1,0 +1,9 @@
+-- `board::board::Board::from_cells` meets its contract: the lines are those of the bytes. Assumes nothing.
+use Rattle.board.proofs.Given.{board-given, from-lines}
+use borrow.Author.Rules.{rules}
+use Rattle.board.proofs.board.Board.from_cells.Goals as goal
+
+pub returns : goal.returns
+returns c =
+    simp (c.of.ensures, c.from_lines.ensures, c.cells_refusal.ensures)
+    (board-given _ _ _ (λ e. from-lines _ c.lines_of.ensures))

@@ -1,0 +1,24 @@
+-- `lists::codes::keep_eyes` meets its contract: the cells that are kept are the eyes. Assumes nothing.
+use mathlib.Core.Path.{ap₂, ◌∙◌}
+use Prim.Native.Nat.{ℕ}
+use Rattle.rules.specs.Bit.{bit}
+use Rattle.rules.proofs.Address.{line-here}
+use Rattle.grid.specs.Lines.{cells_of}
+use Rattle.lent.proofs.Laws.{wrote_as}
+use Rattle.lists.specs.Lists.{cell_list}
+use Rattle.lists.proofs.Shown.{eye-list}
+use borrow.Author.Rules.{rules}
+use Rattle.lists.proofs.codes.keep_eyes.Goals as goal
+
+pub keep_cells-requires : goal.keep_cells-requires
+keep_cells-requires c =
+    let h = c.requires in
+    (h.2, rw c.line_no.ensures (line-here c.args.d c.args.code h.2 h.1), h.3)
+
+pub returns : goal.returns
+returns c =
+    let a = c.args in
+    wrote_as c.keep_cells.ensures
+    (ap₂ (λ (i m : ℕ). cell_list a.d i (bit m)) c.line_no.ensures
+    c.eyes_along-eyes.ensures
+    ∙ eye-list a.player (cells_of a.lines.now) a.code a.d)

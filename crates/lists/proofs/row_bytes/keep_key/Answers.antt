@@ -1,0 +1,19 @@
+-- `lists::row_bytes::keep_key` meets its contract: the starts on a sound line are those of its rows. Assumes nothing.
+use Rattle.lent.proofs.Laws.{wrote_as}
+use Rattle.lists.proofs.Shown.{key-rows}
+use borrow.Author.Rules.{rules}
+use Rattle.lists.proofs.row_bytes.keep_key.Goals as goal
+
+pub returns : goal.returns
+returns c =
+    let a = c.args in
+    wrote_as c.keep_rows.ensures
+    (rw (
+      c.row_starts-starts.ensures,
+      c.is_black.ensures,
+      c.key_size.ensures,
+      c.mask_on-op.ensures,
+      c.opponent.ensures,
+      c.mask_on-my.ensures,
+    )
+    (key-rows a.player a.kind a.lines.now c.requires.0 a.key c.requires.1))

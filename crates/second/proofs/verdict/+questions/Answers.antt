@@ -1,0 +1,178 @@
+-- The six functions of the cycle meet their contracts. What falls at each call is six times the number of empty points, and a little: on
+-- one board `count_real` 6, `count_real_along` 5, `is_real` 4, `strict_by` 3, `plain` 2, `is_double_three` 1. Assumes nothing.
+use mathlib.Core.Path.{◌≡◌, refl, ap, sym, ◌∙◌}
+use mathlib.Core.List.{List}
+use Prim.Native.Nat.{ℕ, ◌+◌, ◌-◌, ◌*◌, ◌≤◌, ◌<◌}
+use native.Mathlib.Omega.{arith}
+use borrow.Author.Tests.{not-true, not-false, lt-ltb, le-ltb}
+use borrow.Author.Rules.{rules}
+use Rattle.rules.specs.Grid.{empties}
+use Rattle.rules.specs.Forbidden.{real_threes, strict_of, plain_of, plain_with, is_overline, is_double_four, is_double_three}
+use Rattle.rules.proofs.Logic.{true-T}
+use Rattle.rules.proofs.Gap.{eye-free, five-not-real, real-told}
+use Rattle.second.specs.Count.{row_count, rows_along}
+use Rattle.second.proofs.Tallied.{Seen, seen_none, seen-far, seen_more, seen_all}
+use Rattle.second.proofs.Asked.{some-true, some-false, more-true, more-false, more-is, asked-five, asked-plain}
+use Rattle.second.proofs.Asked.{five-true, five-false, zero-there}
+use Rattle.second.proofs.Asked.{with-ok, with-fewer, written_back, fewer}
+use borrow.Fn.Kinds.{In}
+use borrow.Fn.PlainCycle.{Measures, is, falls, and}
+use Rattle.second.proofs.verdict.+questions.Goals as goal
+
+pub count_real-returns : goal.count_real-returns
+unfolding row_count
+count_real-returns t c =
+    let p = c.args.code in
+    let e = c.count_real_along-vertical.ensures.2 in
+    let f = c.count_real_along-horizontal.ensures.2 ∙ e in
+    let g = c.count_real_along-ascending.ensures.2 ∙ f in (
+      rw (
+        c.count_real_along-vertical.ensures.0,
+        c.count_real_along-horizontal.ensures.0 ∙ ap (λ (x : List ℕ). rows_along (real_threes strict_of x p 1)) e,
+        c.count_real_along-ascending.ensures.0 ∙ ap (λ (x : List ℕ). rows_along (real_threes strict_of x p 2)) f,
+        c.count_real_along-descending.ensures.0 ∙ ap (λ (x : List ℕ). rows_along (real_threes strict_of x p 3)) g,
+      ) refl,
+      c.count_real_along-descending.ensures.2 ∙ g,
+    )
+
+pub count_real_along-returns-then-found-first : goal.count_real_along-returns-then-found-first
+count_real_along-returns-then-found-first t c =
+    let r = c.is_real-found.ensures in
+    let a = c.args in
+    let e = c.loop-j.invariant.0 in
+    let is = r.0 ∙ ap (λ (x : List ℕ). real_threes strict_of x a.code a.d c.loop-j.j) e in (
+      seen-far _ c.loop-j.j c.loop-j.first c.loop-j-test.true c.loop-j.invariant.2 _ is c.if-found-first.true,
+      omega arith,
+      r.1 ∙ e,
+    )
+
+pub count_real_along-returns-then-first-lt16 : goal.count_real_along-returns-then-first-lt16
+count_real_along-returns-then-first-lt16 t c =
+    let e : c.loop-j.j ≡ 16 = omega arith in (
+      rw (lt-ltb c.loop-j.first 16 c.if-first-lt16.true) at (seen_all _ c.loop-j.first c.loop-j.j e c.loop-j.invariant.2),
+      omega arith,
+      c.loop-j.invariant.0,
+    )
+
+pub count_real_along-returns-else-first-lt16 : goal.count_real_along-returns-else-first-lt16
+count_real_along-returns-else-first-lt16 t c =
+    let e : c.loop-j.j ≡ 16 = omega arith in (
+      rw (le-ltb c.loop-j.first 16 c.if-first-lt16.false) at (seen_all _ c.loop-j.first c.loop-j.j e c.loop-j.invariant.2),
+      omega arith,
+      c.loop-j.invariant.0,
+    )
+
+pub is_double_three-returns-then-count_rows-lt2 : goal.is_double_three-returns-then-count_rows-lt2
+unfolding is_double_three
+is_double_three-returns-then-count_rows-lt2 t c = (rw (more-false _ c.count_rows.ensures c.if-count_rows-lt2.true), refl)
+
+pub is_double_three-count_real-real-requires : goal.is_double_three-count_real-real-requires
+is_double_three-count_real-real-requires t c =
+    let a = c.args in
+    let p = c.requires in
+    let m = c.decreases in
+    let f = with-fewer a.board.now a.code p.0 p.1 p.2 in
+    (omega arith, (with-ok a.board.now a.code p.0 p.1 p.2, p.1))
+
+pub is_double_three-returns : goal.is_double_three-returns
+unfolding is_double_three
+is_double_three-returns t c =
+    let r = c.count_real-real.ensures in
+    let a = c.args in
+    let p = c.requires in (
+      rw (more-true _ c.count_rows.ensures c.if-count_rows-lt2.false) (more-is _ r.0),
+      written_back a.board.now a.code p.0 p.1 p.2 r.1,
+    )
+
+pub is_real-returns-then-not-is_through : goal.is_real-returns-then-not-is_through
+unfolding real_threes
+is_real-returns-then-not-is_through t c =
+    let e = c.is_through.ensures in
+    (rw (sym e ∙ c.if-not-is_through.true), refl)
+
+pub is_real-returns-then-fours-ge1 : goal.is_real-returns-then-fours-ge1
+unfolding real_threes
+is_real-returns-then-fours-ge1 t c =
+    let a = c.args in
+    let on = sym c.is_through.ensures ∙ c.if-not-is_through.false in (
+      five-not-real a.board.now a.code a.d a.j c.requires.2 c.requires.1 (true-T on) strict_of c.eye_of-eye.ensures.0
+          (five-true a.board.now _ c.count_rows-fours.ensures c.if-fours-ge1.true) ∙ rw on refl,
+      refl,
+    )
+
+pub is_real-strict_by-requires : goal.is_real-strict_by-requires
+is_real-strict_by-requires t c =
+    let a = c.args in
+    let m = c.decreases in
+    let e = c.eye_of-eye.ensures in
+    let on = true-T (sym c.is_through.ensures ∙ c.if-not-is_through.false) in (
+      omega arith,
+      (
+        c.requires.0,
+        e.1,
+        zero-there a.board.now _ c.requires.0 e.1
+            (rw e.0 (eye-free a.board.now a.code a.d a.j c.requires.2 c.requires.1 on)),
+        c.count_rows-fours.ensures,
+      ),
+    )
+
+pub is_real-returns : goal.is_real-returns
+unfolding real_threes
+is_real-returns t c =
+    let a = c.args in
+    let on = sym c.is_through.ensures ∙ c.if-not-is_through.false in (
+      c.is_none.ensures
+          ∙ real-told a.board.now a.code a.d a.j c.requires.2 c.requires.1 (true-T on) strict_of c.eye_of-eye.ensures.0
+          (five-false a.board.now _ c.count_rows-fours.ensures c.if-fours-ge1.false) c.strict_by.ensures.0 ∙ rw on refl,
+      c.strict_by.ensures.1,
+    )
+
+pub plain-returns-then-count_rows-ge1 : goal.plain-returns-then-count_rows-ge1
+unfolding plain_of plain_with is_overline
+plain-returns-then-count_rows-ge1 t c =
+    (rw (some-true _ c.count_rows.ensures c.if-count_rows-ge1.true), refl)
+
+pub plain-returns-then-count_rows-ge2 : goal.plain-returns-then-count_rows-ge2
+unfolding plain_of plain_with is_overline is_double_four
+plain-returns-then-count_rows-ge2 t c =
+    (rw (some-false _ c.count_rows.ensures c.if-count_rows-ge1.false, more-true _ c.count_rows-2.ensures c.if-count_rows-ge2.true), refl)
+
+pub plain-returns-then-is_double_three : goal.plain-returns-then-is_double_three
+unfolding plain_of plain_with is_overline is_double_four
+plain-returns-then-is_double_three t c =
+    let r = c.is_double_three.ensures in
+    (
+      rw (
+        some-false _ c.count_rows.ensures c.if-count_rows-ge1.false,
+        more-false _ c.count_rows-2.ensures c.if-count_rows-ge2.false,
+        sym r.0 ∙ c.if-is_double_three.true,
+      ),
+      r.1,
+    )
+
+pub plain-returns : goal.plain-returns
+unfolding plain_of plain_with is_overline is_double_four
+plain-returns t c =
+    let r = c.is_double_three.ensures in
+    (
+      rw (
+        some-false _ c.count_rows.ensures c.if-count_rows-ge1.false,
+        more-false _ c.count_rows-2.ensures c.if-count_rows-ge2.false,
+        sym r.0 ∙ c.if-is_double_three.false,
+      ),
+      r.1,
+    )
+
+pub strict_by-returns-then-fours-ge1 : goal.strict_by-returns-then-fours-ge1
+strict_by-returns-then-fours-ge1 t c =
+    let a = c.args in
+    let p = c.requires in
+    (asked-five a.board.now a.code p.0 p.1 p.2 p.3 c.if-fours-ge1.true, refl)
+
+pub strict_by-returns : goal.strict_by-returns
+strict_by-returns t c =
+    let a = c.args in
+    let p = c.requires in (
+      c.plain.ensures.0 ∙ asked-plain a.board.now a.code p.0 p.1 p.2 p.3 c.if-fours-ge1.false,
+      c.plain.ensures.1,
+    )

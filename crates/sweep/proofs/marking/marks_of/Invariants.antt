@@ -1,0 +1,15 @@
+-- `sweep::marking::marks_of` meets its contract: after x turns the codes below 15 x are marked. Assumes nothing.
+use mathlib.Core.Path.{◌≡◌, ap, ◌∙◌}
+use Prim.Native.Nat.{ℕ, ◌≤◌, ◌+◌, ◌*◌, ◌-◌}
+use native.Mathlib.Omega.{arith}
+use Rattle.lent.specs.Lists.{zeros}
+use Rattle.sweep.specs.Marks.{marks, codes_below, has_value}
+use Rattle.sweep.proofs.Marks.{codes-none, codes_all}
+use borrow.Author.Rules.{rules}
+use Rattle.sweep.proofs.marking.marks_of.Given as goal
+
+abbrev pub invariant-loop-x : goal.invariant-loop-x
+invariant-loop-x l = (l.x ≤ 15) × (l.marks ≡ marks (codes_below (15 * l.x) (has_value l.cells l.value)))
+
+abbrev pub decreases-loop-x : goal.decreases-loop-x
+decreases-loop-x l = 15 - l.x

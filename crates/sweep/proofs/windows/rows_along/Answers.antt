@@ -1,0 +1,48 @@
+-- `sweep::windows::rows_along` meets its contract, mask by mask. Assumes nothing.
+use mathlib.Core.Path.{◌≡◌}
+use Prim.Native.Nat.{◌≤◌, ◌-◌}
+use native.Mathlib.Omega.{arith}
+use Rattle.rules.specs.declared.RowKind.TheVariants.{Two, Overlining}
+use Rattle.lent.specs.Lists.{zeros}
+use Rattle.sweep.specs.Marks.{row_mask, marks, is_marked, Scored, row_from}
+use Rattle.sweep.proofs.Marks.{as-marked, rows_start, rows_more, rows_end}
+use Rattle.sweep.proofs.Starts.{two-row, overlining-row, sword-rows}
+use Rattle.cells.proofs.Filled.{filled}
+use borrow.Author.Rules.{rules}
+use Rattle.sweep.proofs.windows.rows_along.Goals as goal
+
+pub loop-i-init : goal.loop-i-init
+unfolding zeros
+loop-i-init c = (omega arith, omega arith, rows_start _, rows_start _, c.windows_in-w.ensures)
+
+pub both-requires : goal.both-requires
+both-requires c = (as-marked _ c.loop-i.invariant.4.twos, search rules, search rules, search rules)
+
+pub both-requires-in-loop-i : goal.both-requires-in-loop-i
+both-requires-in-loop-i c =
+    (as-marked _ c.loop-i.invariant.4.fours, search rules, search rules, search rules)
+
+pub loop-i-preserved : goal.loop-i-preserved
+loop-i-preserved c =
+    let b = is_marked c.args.blacks.now in
+    let w = is_marked c.args.whites.now in
+    let d = c.args.d in
+    let i = c.loop-i.i in
+    let (low, high, twos, overs, e) = c.loop-i.invariant in (
+      omega arith,
+      omega arith,
+      rows_more _ i (omega arith) twos
+          (two-row b w d c.requires.3 i e.twos c.both.ensures c.ahead.type-inv c.ahead.ensures),
+      rows_more _ i (omega arith) overs (overlining-row b w d c.requires.3 i e.fours c.both-in-loop-i.ensures),
+      e,
+    )
+
+pub returns : goal.returns
+returns c =
+    let i = c.loop-i.i in
+    let (low, high, twos, overs, e) = c.loop-i.invariant in
+    record {
+      twos = rows_end _ i (omega arith) (omega arith) twos;
+      swords = sword-rows _ _ c.args.d c.requires.3 e.threes;
+      overs = rows_end _ i (omega arith) (omega arith) overs;
+    }
