@@ -21,7 +21,7 @@ pub returns-in-Is : goal.returns-in-Is
 returns-in-Is c =
     let b = c.args.board in
     let none = sym c.refusal-refused.ensures ∙ c.if-refused-ne0.false in
-    ap line.Is c.Line-of.ensures
+    ap line.Is c.line_of.ensures
     ∙ ap (line_by (shown_line b.lines)) (sym c.in-Is.is ∙ c.line_key.ensures) ∙ line-numbered b _ _ none
 
 pub returns-in-Refused : goal.returns-in-Refused

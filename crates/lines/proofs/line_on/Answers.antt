@@ -10,7 +10,7 @@ returns c =
     let a = c.args in
     simp (
       c.of.ensures,
-      c.before.Line-of.ensures,
+      c.line_of.ensures,
       c.first.ensures,
       c.direction_refusal.ensures,
       c.refusal_at.ensures,

@@ -12,7 +12,7 @@ use borrow.Author.Rules.{rules}
 use Rattle.sweep.proofs.marking.marked_columns.Given as goal
 
 abbrev pub invariant-loop-i : goal.invariant-loop-i
-invariant-loop-i l = (l.i ≤ 26) × (l.columns ≡ mask_of 16 (λ x. any_below l.i (λ l.i. bit (get_or l.marks l.i 0) x)))
+invariant-loop-i l = (l.i ≤ 26) × (l.columns ≡ mask_of 16 (λ x. any_below l.i (λ i. bit (get_or l.marks i 0) x)))
 
 abbrev pub decreases-loop-i : goal.decreases-loop-i
 decreases-loop-i l = 26 - l.i

@@ -51,17 +51,17 @@ pub loop-i-preserved : goal.loop-i-preserved
 loop-i-preserved c =
     let i = c.loop-i.i in
     let more = c.loop-i-test.true in
-    let (low, high, done, v, h, a, c) = c.loop-i.invariant in (
+    let (low, high, done, v, h, a, d) = c.loop-i.invariant in (
       omega arith,
       omega arith,
       rows_more _ i (omega arith) done
-          (asked-row c.args.cells.now c.marks_of-blacks.ensures c.marks_of-whites.ensures v h a c c.requires
-          c.whole-all.ensures i (omega arith) c.some_at-overline.type-inv c.more_at-double_four.type-inv c.more_at-double_two.type-inv c.some_at-overline.ensures
+          (asked-row c.args.cells.now c.marks_of-blacks.ensures c.marks_of-whites.ensures v h a d c.requires
+          c.whole-all.ensures i (omega arith) c.some_at-overline.type_inv c.more_at-double_four.type_inv c.more_at-double_two.type_inv c.some_at-overline.ensures
           c.more_at-double_four.ensures c.more_at-double_two.ensures),
       v,
       h,
       a,
-      c,
+      d,
     )
 
 pub returns : goal.returns

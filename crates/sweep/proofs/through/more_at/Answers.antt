@@ -11,5 +11,5 @@ returns c =
     let h = c.met_at-h.ensures in
     let e = c.met_at-a.ensures in
     let d = c.met_at-d.ensures in
-    says-more (cells_if a.five) (marks_in a.v.now a.h.now a.a.now a.d.now) a.i v.0 h.0 e.0 d.0 v.1
-    h.1 e.1 d.1
+    says-more (cells_if a.five) (marks_in a.v.now a.h.now a.a.now a.d.now) a.i v.some h.some e.some d.some v.apart
+    h.apart e.apart d.apart

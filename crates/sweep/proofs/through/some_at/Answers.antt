@@ -7,5 +7,5 @@ use Rattle.sweep.proofs.through.some_at.Goals as goal
 pub returns : goal.returns
 returns c =
     let a = c.args in
-    says_some (cells_if a.five) (marks_in a.v.now a.h.now a.a.now a.d.now) a.i c.met_at.ensures.0
-    c.met_at-2.ensures.0 c.met_at-3.ensures.0 c.met_at-4.ensures.0
+    says_some (cells_if a.five) (marks_in a.v.now a.h.now a.a.now a.d.now) a.i c.met_at.ensures.some
+    c.met_at-2.ensures.some c.met_at-3.ensures.some c.met_at-4.ensures.some

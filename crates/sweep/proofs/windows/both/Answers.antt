@@ -8,4 +8,4 @@ use Rattle.sweep.proofs.windows.both.Goals as goal
 pub returns : goal.returns
 unfolding pair_from
 returns c =
-    row-and _ _ c.args.i c.back.type-inv (marks-row _ c.requires.0.whole c.args.i (omega arith)) c.back.ensures
+    row-and _ _ c.args.i c.back.type_inv (marks-row _ c.requires.0.whole c.args.i (omega arith)) c.back.ensures

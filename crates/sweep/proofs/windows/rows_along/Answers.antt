@@ -32,7 +32,7 @@ loop-i-preserved c =
       omega arith,
       omega arith,
       rows_more _ i (omega arith) twos
-          (two-row b w d c.requires.3 i e.twos c.both.ensures c.ahead.type-inv c.ahead.ensures),
+          (two-row b w d c.requires.3 i e.twos c.both.ensures c.ahead.type_inv c.ahead.ensures),
       rows_more _ i (omega arith) overs (overlining-row b w d c.requires.3 i e.fours c.both-in-loop-i.ensures),
       e,
     )

@@ -20,7 +20,7 @@ returns c =
     let d = c.args.d in
     let i = c.args.i in
     let room =
-    room_row w d i c.requires.3 c.requires.2 (omega arith) last.type-inv clear.type-inv last.ensures clear.ensures in
-    let alive = alive-row b w d i room behind.type-inv after.type-inv behind.ensures after.ensures in
+    room_row w d i c.requires.3 c.requires.2 (omega arith) last.type_inv clear.type_inv last.ensures clear.ensures in
+    let alive = alive-row b w d i room behind.type_inv after.type_inv behind.ensures after.ensures in
     scored-row b w d i c.ahead-3.ensures c.ahead-4.ensures c.ahead-5.ensures c.ahead-6.ensures c.ahead-7.ensures room
     alive c.tally-n.ensures
