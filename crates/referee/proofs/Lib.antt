@@ -18,15 +18,5 @@ pub mod Swept
 pub mod Ruled
 -- the eight views of what the referee answers on a board
 pub mod Seen
--- the lines of a lent board, lent on and taken back
-pub mod Lines
--- a count of a lent board, read and written
-pub mod Counts
--- functions that are lent something and take a number: their contracts, and how one is called
-pub mod Lent
--- a thin function over a lent board meets its contract where what it calls on the lines does
-pub mod Walk
 -- the trial stone on a lent board: where it may be put, and that the board is as it was
 pub mod Trial
--- a question on a board by value meets its contract where the one on a lent board does
-pub mod ByValue

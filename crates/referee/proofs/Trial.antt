@@ -1,8 +1,6 @@
 -- The trial stone on a board: put at an empty point of a sound one and taken off again, the board is as it was.
---     tries            the contract of `trial_in`
 --     stone-on, stone-off        with the stone put, and with it taken off, the counts are those of the cells
 --     may-ask, may-remove, tried the board with the stone may be asked, and the stone taken off; what the three calls say is what is given
---     allows, tests-double                 the contracts of `may_try_in` and of `is_double_three_in`
 --     may-be-tried, answered, not-tried    where the first says yes, a trial may be made, and answers the second; else the first does
 -- Assumes nothing.
 use mathlib.Core.Path.{◌≡◌, refl, ap, sym, subst, ◌∙◌}
@@ -13,10 +11,6 @@ use native.Mathlib.Omega.{arith}
 use lib.Dec.{T, eqb}
 use lib.ListN.{get_or, set}
 use lib.Seq.{set-set, set-get_or}
-use seplogic.Ra.Ura.{Ura}
-use base.Logic.{emp}
-use contract.Monad.{fact}
-use denote.Builtin.{bool}
 use borrow.Author.Tests.{eq-eqb, eqb-true}
 use Rattle.rules.specs.Answers.{test_answer}
 use Rattle.rules.specs.Bit.{digit}
@@ -29,7 +23,6 @@ use Rattle.rules.proofs.Changes.{set_at}
 use Rattle.rules.proofs.Logic.{along, T_true}
 use Rattle.rules.proofs.Refusals.{given, tested}
 use Rattle.rules.proofs.Verdicts.{double-real}
-use Rattle.rules.specs.contracts.answer.TestAnswer as Answer
 use Rattle.cells.specs.Cells.{Cells}
 use Rattle.cells.proofs.Given.{put-ok}
 use Rattle.cells.proofs.Counts.{stones-le, stones-set}
@@ -40,12 +33,6 @@ use Rattle.board.specs.declared.board.Board.{Board}
 use Rattle.board.proofs.Given.{at_none, sound-in, counts-in, board-sound, board-cells, whole-board, counted-board}
 use Rattle.referee.specs.Referee.{HoldsAt}
 use Rattle.referee.specs.Answers.{is_yes}
-use Rattle.referee.proofs.Lent.{Terms}
-use Rattle.referee.proofs.Walk.{in-board}
-
-abbrev pub tries : {M : Type 1} (𝓤 : Ura M) → Terms 𝓤
-tries 𝓤 =
-    in-board 𝓤 bool (λ n h. fact 𝓤 (HoldsAt h n 0)) (λ n h h' r. (r ≡ real_double strict_of (with_black (cells h) n) n) × (h' ≡ h))
 
 -- ---- the stone put, and counted: Black has one more; and taken off
 
@@ -120,16 +107,6 @@ module _ (refused : ℕ) (e : Bool) {a : TestAnswer} (is : a ≡ test_answer ref
   not_yes : (d : Bool) → T (not (is_yes a)) → (T (not e) → e ≡ d) → a ≡ test_answer refused d
   unfolding test_answer
   not_yes d n less = is ∙ given test.Is (test.Refused refused) refused e d (λ z. less (along (ap not (value z)) n))
-
-abbrev pub allows : {M : Type 1} (𝓤 : Ura M) → Terms 𝓤
-allows 𝓤 =
-    in-board 𝓤 Answer.the_row (λ n h. emp 𝓤)
-    (λ n h h' r. (r ≡ test_answer (refusal_at h n) (is_empty (get_or (cells h) n 0))) × (h' ≡ h))
-
-abbrev pub tests-double : {M : Type 1} (𝓤 : Ura M) → Terms 𝓤
-tests-double 𝓤 =
-    in-board 𝓤 Answer.the_row (λ n h. emp 𝓤)
-    (λ n h h' r. (r ≡ test_answer (refusal_at h n) (double_three_at (cells h) n)) × (h' ≡ h))
 
 module _ (h h₁ : Board) (n : ℕ) {a : TestAnswer} {t : Bool}
     (may : (a ≡ test_answer (refusal_at h n) (is_empty (get_or (cells h) n 0))) × (h₁ ≡ h)) (says : t ≡ is_yes a) where

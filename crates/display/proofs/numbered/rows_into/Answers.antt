@@ -1,0 +1,22 @@
+-- `display::numbered::rows_into` meets its contract: after k turns the first k rows are written. Assumes nothing.
+use Prim.Native.Nat.{◌-◌, ◌≤◌}
+use native.Mathlib.Omega.{arith}
+use Rattle.rules.specs.Tools.{gather}
+use Rattle.lent.specs.Lists.{Wrote}
+use Rattle.lent.proofs.Laws.{wrote-same, wrote-first, wrote-part, wrote-top}
+use Rattle.display.specs.Texts.{numbered_row}
+use Rattle.display.proofs.Writing.{part_room}
+use borrow.Author.Rules.{rules}
+use Rattle.display.proofs.numbered.rows_into.Goals as goal
+
+pub loop-k-init : goal.loop-k-init
+loop-k-init c = (omega arith, wrote-first _)
+
+pub numbered_row_into-n-requires : goal.numbered_row_into-n-requires
+numbered_row_into-n-requires c =
+    let on = c.loop-k-test.true in
+    (part_room (numbered_row c.args.cells.now) c.loop-k.k 15 on c.loop-k.invariant.1 (omega (arith, c.requires)), on)
+
+pub loop-k-preserved : goal.loop-k-preserved
+loop-k-preserved c =
+    (omega arith, wrote-part _ c.loop-k.k c.loop-k.invariant.1 c.numbered_row_into-n.ensures)

@@ -1,0 +1,16 @@
+-- `display::numbered::rows_into` meets its contract: after k turns the first k rows are written. Assumes nothing.
+use Prim.Native.Nat.{◌-◌, ◌≤◌}
+use native.Mathlib.Omega.{arith}
+use Rattle.rules.specs.Tools.{gather}
+use Rattle.lent.specs.Lists.{Wrote}
+use Rattle.lent.proofs.Laws.{wrote-same, wrote-first, wrote-part, wrote-top}
+use Rattle.display.specs.Texts.{numbered_row}
+use Rattle.display.proofs.Writing.{part_room}
+use borrow.Author.Rules.{rules}
+use Rattle.display.proofs.numbered.rows_into.Given as goal
+
+abbrev pub invariant-loop-k : goal.invariant-loop-k
+invariant-loop-k l = (l.k ≤ 15) × Wrote l.initial.buf 0 (gather l.k (numbered_row l.cells)) l.buf l.n
+
+abbrev pub decreases-loop-k : goal.decreases-loop-k
+decreases-loop-k l = 15 - l.k

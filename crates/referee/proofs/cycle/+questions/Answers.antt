@@ -1,0 +1,197 @@
+-- The six functions of the cycle meet their contracts. What falls at each call is six times the number of empty points, and a little:
+-- on one board `two_real` 6, `open_asked` 5, `is_real` 4, `strict_by` 3, `plain` 2, `trial` 1. Assumes nothing.
+use mathlib.Core.Path.{◌≡◌, refl, ap, sym, subst, ◌∙◌}
+use mathlib.Core.List.{List}
+use native.Mathlib.Omega.{arith}
+use lib.Dec.{T}
+use borrow.Author.Rules.{rules}
+use Rattle.rules.specs.Grid.{empties, starts_of, rows_through, numbered}
+use Rattle.rules.specs.Forbidden.{is_real, strict_of, real_double}
+use Rattle.rules.specs.declared.Player.TheVariants.{Black}
+use Rattle.rules.specs.declared.RowKind.TheVariants.{Three}
+use Rattle.rules.proofs.Logic.{true-T}
+use Rattle.grid.specs.Lines.{cells_of, Sound}
+use Rattle.referee.specs.Referee.{plain_by, strict_by, KnownOf}
+use Rattle.referee.proofs.RowsSeen.{triable}
+use Rattle.referee.proofs.EyeFound.{eye-small, eye-empty, five-seen, real-seen}
+use Rattle.referee.proofs.Asked.{on-sound, on-cells, on-fewer, on-threes, added, lifted, fewer}
+use Rattle.referee.proofs.Told.{Walked, open-left, left-three, known-settled, one-settled, stays-settled}
+use Rattle.referee.proofs.Told.{next-there, next-further, walk_first, walk-on, walk-done}
+use Prim.Native.Nat.{ℕ, ◌+◌, ◌-◌, ◌*◌, ◌/◌, ◌%◌, ◌<◌}
+use borrow.Fn.Kinds.{In}
+use borrow.Fn.PlainCycle.{Measures, is, falls, and}
+use Rattle.referee.proofs.cycle.+questions.Goals as goal
+
+pub is_real-rows_on-rows-requires : goal.is_real-rows_on-rows-requires
+is_real-rows_on-rows-requires t c =
+    let t = c.requires in (
+      t.0,
+      eye-small c.args.lines.now c.args.code (c.args.three / 16) (c.args.three % 16) t.0 t.1 (omega (arith, t.2)) t.3
+          c.eye_on-eye.ensures,
+      t.4,
+    )
+
+pub is_real-returns-then-some_row : goal.is_real-returns-then-some_row
+is_real-returns-then-some_row t c =
+    let t = c.requires in (
+      five-seen c.args.lines.now c.args.code (c.args.three / 16) (c.args.three % 16) t.0 t.1 (omega (arith, t.2)) t.3
+          c.eye_on-eye.ensures c.rows_on-rows.ensures c.some_row.ensures c.if-some_row.true,
+      refl,
+    )
+
+pub is_real-strict_by-requires : goal.is_real-strict_by-requires
+is_real-strict_by-requires t c =
+    let L = c.args.lines.now in
+    let m = c.decreases in
+    let t = c.requires in
+    let d = c.args.three / 16 in
+    let j = c.args.three % 16 in
+    let h : d < 4 = omega (arith, t.2) in (
+      omega arith,
+      (
+        eye-small L c.args.code d j t.0 t.1 h t.3 c.eye_on-eye.ensures,
+        λ u. triable (cells_of L) _ c.rows_on-rows.ensures L t.0 refl
+            (eye-empty L c.args.code d j t.0 t.1 h t.3 c.eye_on-eye.ensures),
+        t.4,
+      ),
+    )
+
+pub is_real-returns : goal.is_real-returns
+is_real-returns t c =
+    let t = c.requires in (
+      c.is_none.ensures
+          ∙ real-seen c.args.lines.now c.args.code (c.args.three / 16) (c.args.three % 16) t.0 t.1 (omega (arith, t.2))
+          t.3 c.eye_on-eye.ensures c.rows_on-rows.ensures c.some_row.ensures c.if-some_row.false c.strict_by.ensures.0,
+      c.strict_by.ensures.1,
+    )
+
+pub open_asked-loop-three-init : goal.open_asked-loop-three-init
+open_asked-loop-three-init t c =
+    let known = c.requires.2 in
+    let C = cells_of c.args.lines.now in
+    let e = c.other_starts-rest.ensures in (
+      refl,
+      known,
+      next-there _ 0 c.is_told.result c.next_unless-three.ensures,
+      λ k hk u. left-three C c.args.code known k hk (open-left _ _ e k hk u),
+      walk_first _ 0 c.is_told.result c.next_unless-three.ensures _ _ refl c.is_told.ensures e,
+    )
+
+pub open_asked-loop-three-smaller : goal.open_asked-loop-three-smaller
+open_asked-loop-three-smaller t c =
+    let h = c.loop-three-test.true in
+    let g = next-further _ (c.loop-three.three + 1) c.is_told-in-loop-three.result c.next_unless-three-in-loop-three.ensures (omega arith) in
+    omega arith
+
+pub open_asked-loop-three-preserved : goal.open_asked-loop-three-preserved
+open_asked-loop-three-preserved t c =
+    let v = c.loop-three.invariant in
+    let h = c.loop-three-test.true in
+    let C = cells_of c.args.lines.now in
+    let p = c.args.code in
+    let k = c.loop-three.three in
+    let three = v.3 k h (v.2 h) in
+    let answer = c.is_real-real.ensures.0 ∙ ap (λ (c : List ℕ). is_real strict_of (cells_of c) p (k / 16) (k % 16)) v.0 in
+    let es = c.settled-known.ensures.0 in
+    let el = c.settled-known.ensures.1 in (
+      c.is_real-real.ensures.1 ∙ v.0,
+      known-settled C p v.1 k h three c.is_real-real.result answer es el,
+      next-there _ (k + 1) c.is_told-in-loop-three.result c.next_unless-three-in-loop-three.ensures,
+      v.3,
+      walk-on _ (k + 1) c.is_told-in-loop-three.result c.next_unless-three-in-loop-three.ensures _ _ _ _ k refl h c.is_told-in-loop-three.ensures
+          (one-settled C p v.1 k h three c.is_real-real.result answer es el)
+          (stays-settled C p v.1 k h three c.is_real-real.result answer es el) v.4,
+    )
+
+pub open_asked-returns : goal.open_asked-returns
+open_asked-returns t c =
+    let v = c.loop-three.invariant in
+    (walk-done (cells_of c.args.lines.now) c.args.code v.1 _ _ c.loop-three-test.false v.4 c.more_than_one.ensures, v.0)
+
+pub plain-returns-then-some_row : goal.plain-returns-then-some_row
+unfolding plain_by
+plain-returns-then-some_row t c =
+    (rw (sym c.some_row.ensures ∙ c.if-some_row.true) refl, refl)
+
+pub plain-returns-then-more_than_one : goal.plain-returns-then-more_than_one
+unfolding plain_by
+plain-returns-then-more_than_one t c =
+    (rw (sym c.some_row.ensures ∙ c.if-some_row.false, sym c.more_than_one.ensures ∙ c.if-more_than_one.true) refl, refl)
+
+pub plain-returns-then-trial : goal.plain-returns-then-trial
+unfolding plain_by
+plain-returns-then-trial t c =
+    let r = c.trial.ensures in
+    (
+      rw (
+        sym c.some_row.ensures ∙ c.if-some_row.false,
+        sym c.more_than_one.ensures ∙ c.if-more_than_one.false,
+        sym c.more_than_one-2.ensures ∙ c.if-more_than_one-2.true,
+        sym r.0 ∙ c.if-trial.true,
+      )
+          refl,
+      r.1,
+    )
+
+pub plain-returns-else-trial : goal.plain-returns-else-trial
+unfolding plain_by
+plain-returns-else-trial t c =
+    let r = c.trial.ensures in
+    (
+      rw (
+        sym c.some_row.ensures ∙ c.if-some_row.false,
+        sym c.more_than_one.ensures ∙ c.if-more_than_one.false,
+        sym c.more_than_one-2.ensures ∙ c.if-more_than_one-2.true,
+        sym r.0 ∙ c.if-trial.false,
+      )
+          refl,
+      r.1,
+    )
+
+pub plain-returns-else-more_than_one-2 : goal.plain-returns-else-more_than_one-2
+unfolding plain_by
+plain-returns-else-more_than_one-2 t c =
+    (
+      rw (
+        sym c.some_row.ensures ∙ c.if-some_row.false,
+        sym c.more_than_one.ensures ∙ c.if-more_than_one.false,
+        sym c.more_than_one-2.ensures ∙ c.if-more_than_one-2.false,
+      )
+          refl,
+      refl,
+    )
+
+pub strict_by-returns-then-some_row : goal.strict_by-returns-then-some_row
+unfolding strict_by
+strict_by-returns-then-some_row t c =
+    (rw (sym c.some_row.ensures ∙ c.if-some_row.true) refl, refl)
+
+pub strict_by-returns : goal.strict_by-returns
+unfolding strict_by
+strict_by-returns t c =
+    (c.plain.ensures.0 ∙ rw (sym c.some_row.ensures ∙ c.if-some_row.false) refl, c.plain.ensures.1)
+
+pub trial-two_real-real-requires : goal.trial-two_real-real-requires
+trial-two_real-real-requires t c =
+    let L = c.args.lines.now in
+    let p = c.args.code in
+    let hp = c.requires.0 in
+    let q = c.requires.1 in
+    let w = added L _ p c.requires.2 q.sound hp q.free c.add_by.ensures in
+    let m = c.decreases in
+    let f = on-fewer L p q.sound hp q.free w in (
+      omega arith,
+      (on-sound L p q.sound hp q.free w, hp, on-threes L p q.sound hp q.free w q.starts, c.requires.2),
+    )
+
+pub trial-returns : goal.trial-returns
+trial-returns t c =
+    let r = c.two_real-real in
+    let L = c.args.lines.now in
+    let p = c.args.code in
+    let hp = c.requires.0 in
+    let q = c.requires.1 in
+    let w = added L _ p c.requires.2 q.sound hp q.free c.add_by.ensures in (
+      r.ensures.0 ∙ ap (λ (C : List ℕ). real_double strict_of C p) (on-cells L p q.sound hp q.free w),
+      lifted L _ p c.requires.2 q.sound hp q.free c.add_by.ensures r.ensures.1 c.lift_by.ensures,
+    )

@@ -1,0 +1,30 @@
+-- `referee::cycle::strict` meets its contract. Assumes nothing.
+use mathlib.Core.Path.{refl, sym, ◌∙◌}
+use borrow.Author.Rules.{rules}
+use borrow.Author.Tests.{eq-eqb}
+use Rattle.grid.specs.Lines.{cells_of}
+use Rattle.grid.proofs.Lines.{length-cells_of}
+use Rattle.referee.proofs.RowsSeen.{strict-is, triable}
+use Rattle.referee.proofs.Asked.{cell-is, free-is, asked-taken}
+use Rattle.referee.proofs.cycle.strict.Goals as goal
+
+pub returns-then-cell_on-ne0 : goal.returns-then-cell_on-ne0
+returns-then-cell_on-ne0 c =
+    (asked-taken c.args.lines.now c.args.code c.requires.1 c.cell_on.ensures c.if-cell_on-ne0.true, refl)
+
+pub strict_by-requires : goal.strict_by-requires
+strict_by-requires c =
+    let L = c.args.lines.now in
+    let p = c.args.code in
+    let free = sym (cell-is L p c.requires.1 c.cell_on.ensures) ∙ c.if-cell_on-ne0.false in
+    (c.requires.1, λ t. triable (cells_of L) p c.rows_on-rows.ensures L c.requires.0 refl free, c.requires.2)
+
+pub returns : goal.returns
+returns c =
+    let L = c.args.lines.now in
+    let p = c.args.code in
+    let free = free-is L p c.requires.1 c.cell_on.ensures ∙ eq-eqb _ 0 c.if-cell_on-ne0.false in (
+      c.strict_by.ensures.0
+          ∙ strict-is (cells_of L) p c.rows_on-rows.ensures L (length-cells_of L) c.requires.1 free (λ t. refl),
+      c.strict_by.ensures.1,
+    )

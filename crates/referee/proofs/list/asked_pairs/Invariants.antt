@@ -1,0 +1,19 @@
+-- `referee::list::asked_pairs` meets its contract: after a turn the points below p are asked, or known to be none. Assumes nothing.
+use mathlib.Core.Path.{◌≡◌, refl, sym, subst, ◌∙◌}
+use mathlib.Core.List.{List}
+use Prim.Native.Nat.{ℕ, ◌-◌, ◌≤◌}
+use native.Mathlib.Omega.{arith}
+use borrow.Author.Rules.{rules}
+use Rattle.rules.specs.Tools.{gather}
+use Rattle.rules.specs.Forbidden.{strict_of, entry, forbidden_list}
+use Rattle.lent.specs.Lists.{zeros, Wrote}
+use Rattle.lent.proofs.Laws.{wrote-start, wrote-length, gather-step, gather-end}
+use Rattle.referee.proofs.Swept.{column-skip}
+use Rattle.rules.proofs.Listed.{pairs-short, entry-is}
+use Rattle.referee.proofs.list.asked_pairs.Given as goal
+
+abbrev pub invariant-loop-p : goal.invariant-loop-p
+invariant-loop-p l = (l.lines ≡ l.initial.lines) × (l.p ≤ 225) × Wrote (zeros 450) 0 (gather l.p (λ q. entry (strict_of l.cells q) q)) l.bytes l.n
+
+abbrev pub decreases-loop-p : goal.decreases-loop-p
+decreases-loop-p l = 225 - l.p

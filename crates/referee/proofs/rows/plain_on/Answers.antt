@@ -1,0 +1,12 @@
+-- `referee::rows::plain_on` meets its contract. Assumes nothing.
+use borrow.Author.Rules.{rules}
+use mathlib.Core.Path.{refl, ◌∙◌}
+use Rattle.grid.specs.Lines.{cells_of}
+use Rattle.referee.proofs.RowsSeen.{plain-is, triable}
+use Rattle.referee.proofs.rows.plain_on.Goals as goal
+
+pub returns : goal.returns
+returns c =
+    let l = c.args.lines.now in
+    let p = c.args.code in
+    (c.plain.ensures.0 ∙ plain-is (cells_of l) p c.rows_on-rows.ensures l (λ h. refl), c.plain.ensures.1)

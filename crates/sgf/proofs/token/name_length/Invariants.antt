@@ -1,0 +1,16 @@
+-- `sgf::token::name_length` meets its contract: the bytes below i are capital letters. Assumes nothing.
+use mathlib.Core.Path.{◌≡◌, ap, sym, ◌∙◌}
+use mathlib.Core.Bool.{not}
+use Prim.Native.Nat.{◌+◌, ◌≤◌, ◌-◌}
+use native.Mathlib.Omega.{arith}
+use lib.ListN.{length, drop}
+use borrow.Author.Rules.{rules}
+use Rattle.lent.proofs.Found.{first-hit, first_step, first-end}
+use Rattle.sgf.specs.Tokens.{name_length}
+use Rattle.sgf.proofs.token.name_length.Given as goal
+
+abbrev pub invariant-loop-i : goal.invariant-loop-i
+invariant-loop-i l = (l.i ≤ length l.s) × (name_length l.s ≡ l.i + name_length (drop l.i l.s))
+
+abbrev pub decreases-loop-i : goal.decreases-loop-i
+decreases-loop-i l = length l.s - l.i

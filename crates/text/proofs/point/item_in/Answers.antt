@@ -1,0 +1,14 @@
+-- `text::point::item_in` meets its contract: what it calls says it. Assumes nothing.
+use borrow.Author.Rules.{rules}
+use Rattle.text.specs.Points.{column_in, row_in}
+use Rattle.text.proofs.point.item_in.Goals as goal
+
+pub returns : goal.returns
+unfolding column_in row_in
+returns c = simp (
+  c.trimmed-t.ensures,
+  c.first_byte.ensures,
+  c.column.ensures,
+  c.number.ensures,
+  c.item_at.ensures,
+)
