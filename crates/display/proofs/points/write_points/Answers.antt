@@ -11,9 +11,9 @@ returns-then-refused-ne0 c = turned_down _ _ c.codes_refusal-refused.ensures c.i
 pub returns-then-fits : goal.returns-then-fits
 returns-then-fits c =
     let none = sym c.codes_refusal-refused.ensures ∙ c.if-refused-ne0.false in
-    in_place _ _ none (sym s.fits2.ensures ∙ c.if-fits.true) c.points_into.ensures
+    in_place _ _ none (sym c.fits.ensures ∙ c.if-fits.true) c.points_into.ensures
 
 pub returns : goal.returns
 returns c =
     let none = sym c.codes_refusal-refused.ensures ∙ c.if-refused-ne0.false in
-    too_long _ _ none (sym c.before.fits2.ensures ∙ c.if-fits.false)
+    too_long _ _ none (sym c.fits.ensures ∙ c.if-fits.false)

@@ -13,7 +13,7 @@ pub returns-then-not-is_capital : goal.returns-then-not-is_capital
 unfolding name_length
 returns-then-not-is_capital c =
     sym (c.loop-i.invariant.1 ∙ first-hit _ c.args.s.now c.loop-i.i (omega arith)
-    (ap not (sym c.is_capital.ensures) ∙ c.if-not-is_capital.true))
+    (ap not (sym c.is_capital.ensures ∙ c.if-not-is_capital.true)))
 
 pub loop-i-preserved : goal.loop-i-preserved
 unfolding name_length
@@ -21,7 +21,7 @@ loop-i-preserved c =
     (
       omega arith,
       c.loop-i.invariant.1 ∙ first_step _ c.args.s.now c.loop-i.i (omega arith)
-          (ap not (sym c.is_capital.ensures) ∙ c.if-not-is_capital.false),
+          (ap not (sym c.is_capital.ensures ∙ c.if-not-is_capital.false)),
     )
 
 pub returns : goal.returns

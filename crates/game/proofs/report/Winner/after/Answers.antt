@@ -1,0 +1,12 @@
+-- `game::report::Winner::after` meets its contract. Assumes nothing.
+use borrow.Author.Rules.{rules}
+use Rattle.game.specs.Game.{won_after}
+use Rattle.game.proofs.report.Winner.after.Goals as goal
+
+pub returns-then-five : goal.returns-then-five
+unfolding won_after
+returns-then-five c = rw c.if-five.true c.of.ensures
+
+pub returns : goal.returns
+unfolding won_after
+returns c = rw c.if-five.false

@@ -1,0 +1,11 @@
+-- `game::turn::add_white` meets its contract. Assumes nothing.
+use mathlib.Core.Path.{◌∙◌}
+use mathlib.Core.Bool.{true}
+use Rattle.rules.specs.declared.Player.TheVariants.{White}
+use Rattle.grid.proofs.Placed.{mark-by}
+use borrow.Author.Rules.{rules}
+use Rattle.game.proofs.turn.add_white.Goals as goal
+
+pub returns : goal.returns
+returns c =
+    c.add_by.ensures ∙ mark-by c.args.lines.now _ c.args.code White true c.requires

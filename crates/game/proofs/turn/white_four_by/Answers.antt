@@ -1,0 +1,16 @@
+-- `game::turn::white_four_by` meets its contract. Assumes nothing.
+use Rattle.rules.specs.declared.Player.TheVariants.{Black, White}
+use Rattle.grid.specs.Lines.{cells_of}
+use Rattle.game.proofs.Read.{four-seen, masks-read}
+use borrow.Author.Rules.{rules}
+use Rattle.game.proofs.turn.white_four_by.Goals as goal
+
+pub returns : goal.returns
+returns c =
+    let l = c.args.lines.now in
+    let p = c.args.code in
+    let x = c.stones_by-stones in
+    four-seen White (cells_of l) x.result.own x.result.other p c.requires.1
+    (masks-read White l p c.requires.0 c.requires.1 c.requires.2 x.ensures.0)
+    (masks-read Black l p c.requires.0 c.requires.1 c.requires.2 x.ensures.1)
+    c.white_four_near.ensures

@@ -1,0 +1,134 @@
+-- `hint::attack::attack_at` meets its contract: the tests in their order, and the lines as they were. Assumes nothing.
+use mathlib.Core.Path.{◌≡◌, refl, sym, ap, subst, ◌∙◌}
+use mathlib.Core.Bool.{true}
+use mathlib.Core.List.{List}
+use native.Mathlib.Omega.{arith}
+use Prim.Native.Nat.{ℕ, ◌<◌}
+use lib.ListN.{get_or}
+use borrow.Author.Tests.{ne_eqb}
+use borrow.Author.Rules.{rules}
+use Rattle.rules.specs.Numbers.{opponent_of}
+use Rattle.rules.specs.Grid.{put}
+use Rattle.rules.specs.declared.Player.{Player}
+use Rattle.rules.specs.declared.RowKind.TheVariants.{Sword, Four}
+use Rattle.rules.proofs.Logic.{true-T}
+use Rattle.grid.specs.Lines.{cells_of}
+use Rattle.grid.proofs.Lines.{length-cells_of, cell-on, empty-cell}
+use Rattle.hint.specs.Seen.{AnswerIs}
+use Rattle.hint.proofs.Asked.{zero-empty}
+use Rattle.hint.proofs.Gaps.{not_on, is-on}
+use Rattle.hint.proofs.OnLines.{some-told, taken-there, free-there, put-sound, put-cells, put_back, empty-is}
+use Rattle.hint.proofs.Attacks.{taken-no, five-ends, no-sword-no, forbidden-no, several-ends, eye-lt, eye-free, answered}
+use Rattle.hint.proofs.attack.attack_at.Goals as goal
+
+pub returns-then-cell_on-ne0 : goal.returns-then-cell_on-ne0
+returns-then-cell_on-ne0 c =
+    (
+      taken-no c.args.side (cells_of c.args.lines.now) c.args.code
+          (taken-there c.args.lines.now c.args.code c.requires.1 c.cell_on.ensures c.if-cell_on-ne0.true),
+      refl,
+    )
+
+pub returns-then-some_row : goal.returns-then-some_row
+returns-then-some_row c =
+    let C = cells_of c.args.lines.now in
+    let p = c.args.code in
+    let z = free-there c.args.lines.now p c.requires.1 c.cell_on.ensures c.if-cell_on-ne0.false in (
+      five-ends c.args.side C p (length-cells_of c.args.lines.now) c.requires.1 (zero-empty z) c.requires.3
+          (sym (some-told c.args.side Four C p c.rows_for-rows.ensures.fours c.some_row.ensures) ∙ c.if-some_row.true),
+      refl,
+    )
+
+pub returns-then-not-some_row : goal.returns-then-not-some_row
+returns-then-not-some_row c =
+    let C = cells_of c.args.lines.now in
+    let p = c.args.code in
+    let z = free-there c.args.lines.now p c.requires.1 c.cell_on.ensures c.if-cell_on-ne0.false in (
+      no-sword-no c.args.side C p (length-cells_of c.args.lines.now) c.requires.1 (zero-empty z) c.requires.3
+          (sym (some-told c.args.side Four C p c.rows_for-rows.ensures.fours c.some_row.ensures) ∙ c.if-some_row.false)
+          (sym (some-told c.args.side Sword C p c.rows_for-rows.ensures.swords c.some_row-2.ensures) ∙ c.if-not-some_row.true),
+      refl,
+    )
+
+pub is_forbidden-requires : goal.is_forbidden-requires
+is_forbidden-requires c =
+    (
+      c.requires.0,
+      c.requires.1,
+      free-there c.args.lines.now c.args.code c.requires.1 c.cell_on.ensures
+          c.if-cell_on-ne0.false,
+      c.rows_for-rows.ensures,
+    )
+
+pub returns-then-is_forbidden : goal.returns-then-is_forbidden
+returns-then-is_forbidden c =
+    let C = cells_of c.args.lines.now in
+    let p = c.args.code in
+    let z = free-there c.args.lines.now p c.requires.1 c.cell_on.ensures c.if-cell_on-ne0.false in (
+      forbidden-no c.args.side C p (length-cells_of c.args.lines.now) c.requires.1 (zero-empty z) c.requires.3
+          (sym (some-told c.args.side Four C p c.rows_for-rows.ensures.fours c.some_row.ensures) ∙ c.if-some_row.false)
+          (sym c.is_forbidden.ensures ∙ c.if-is_forbidden.true),
+      refl,
+    )
+
+pub eyes_by-eyes-requires : goal.eyes_by-eyes-requires
+eyes_by-eyes-requires c =
+    (
+      c.requires.0,
+      c.requires.1,
+      free-there c.args.lines.now c.args.code c.requires.1 c.cell_on.ensures
+          c.if-cell_on-ne0.false,
+      c.requires.2,
+      c.rows_for-rows.ensures.swords,
+      true-T (sym (some-told c.args.side Sword (cells_of c.args.lines.now) c.args.code c.rows_for-rows.ensures.swords
+          c.some_row-2.ensures)
+          ∙ c.if-not-some_row.false),
+    )
+
+pub returns-then-eyes : goal.returns-then-eyes
+returns-then-eyes c =
+    let C = cells_of c.args.lines.now in
+    let p = c.args.code in
+    let z = free-there c.args.lines.now p c.requires.1 c.cell_on.ensures c.if-cell_on-ne0.false in (
+      several-ends c.args.side C p (length-cells_of c.args.lines.now) c.requires.1 (zero-empty z) c.requires.3
+          (sym (some-told c.args.side Four C p c.rows_for-rows.ensures.fours c.some_row.ensures) ∙ c.if-some_row.false)
+          (sym c.is_forbidden.ensures ∙ c.if-is_forbidden.false) c.eyes_by-eyes.ensures c.if-eyes.true,
+      refl,
+    )
+
+pub answer_at-answer-requires : goal.answer_at-answer-requires
+answer_at-answer-requires c =
+    let l = c.args.lines.now in
+    let C = cells_of l in
+    let p = c.args.code in
+    let r = c.args.side in
+    let z = free-there l p c.requires.1 c.cell_on.ensures c.if-cell_on-ne0.false in
+    let no-five = sym (some-told r Four C p c.rows_for-rows.ensures.fours c.some_row.ensures) ∙ c.if-some_row.false in
+    let allowed = sym c.is_forbidden.ensures ∙ c.if-is_forbidden.false in
+    let eye = c.eyes_by-eyes.ensures.one c.if-eyes.false in
+    let lt = eye-lt r C p (length-cells_of l) c.requires.1 (zero-empty z) c.requires.3 no-five allowed _ eye in (
+      put-sound r l _ p c.requires.0 c.requires.1 z c.requires.2 c.mark_by.ensures,
+      lt,
+      empty-is _ _ lt (rw (put-cells r l _ p c.requires.0 c.requires.1 z c.requires.2 c.mark_by.ensures)
+          (eye-free r C p (length-cells_of l) c.requires.1 (zero-empty z) c.requires.3 no-five allowed _ eye)),
+      c.requires.2,
+    )
+
+pub returns : goal.returns
+returns c =
+    let l = c.args.lines.now in
+    let C = cells_of l in
+    let p = c.args.code in
+    let r = c.args.side in
+    let z = free-there l p c.requires.1 c.cell_on.ensures c.if-cell_on-ne0.false in
+    let no-five = sym (some-told r Four C p c.rows_for-rows.ensures.fours c.some_row.ensures) ∙ c.if-some_row.false in
+    let allowed = sym c.is_forbidden.ensures ∙ c.if-is_forbidden.false in
+    let eye = c.eyes_by-eyes.ensures.one c.if-eyes.false in (
+      answered r C p (length-cells_of l) c.requires.1 (zero-empty z) c.requires.3 no-five allowed _ eye _
+          (rw (
+            sym (put-cells r l _ p c.requires.0 c.requires.1 z c.requires.2 c.mark_by.ensures),
+            sym
+                c.opponent.ensures,
+          ) c.answer_at-answer.ensures),
+      put_back r l _ p c.requires.0 c.requires.1 z c.requires.2 c.mark_by.ensures refl c.mark_by-2.ensures,
+    )
