@@ -7,4 +7,4 @@ pub mod Moves
 -- how long the two lines are
 pub mod Sizes
 -- THE THEOREMS: no point twice; mended again all is kept; the live entry reads a board with as many stones
-pub mod Mended
+pub mod MendedLists
