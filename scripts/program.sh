@@ -2,7 +2,8 @@
 # functions `usage` and `option`: the command line is read, the program is proved and built where it is not there or is older than the
 # sources, then run, and a refusal is told. Exit status: 0 done, 1 refused, 2 wrong usage, and input or output that fails.
 
-program=$here/target/bin/$name
+crate=$here/crates/$name
+program=$crate/out/$name
 script=./${0##*/}
 
 say() { echo "$script: $*" >&2; }
@@ -74,7 +75,8 @@ on_text() { # COMMAND WORDS...
 
 # --- The program ---
 
-# A source that changes while the program is proved counts as newer than it: the program gets the time at which the check began.
+# `rt run` proves and builds the program, and runs it once, on nothing. A source that changes meanwhile counts as newer than the program,
+# which gets the time at which the proof began.
 build() {
     if ! command -v rt >/dev/null; then
         say "the program is not built, and rt, which proves and builds it, is not on the PATH"
@@ -84,7 +86,9 @@ build() {
     mkdir -p "$here/target"
     began=$here/target/$name.began
     touch "$began"
-    if ! said=$(cd "$here" && scripts/in_memory rt check "$name" 2>&1 </dev/null) || [ ! -x "$program" ]; then
+    rm -f "$program"
+    said=$(cd "$crate" && rt run 2>&1 </dev/null) || true
+    if [ ! -x "$program" ]; then
         printf '%s\n' "$said" | tail -n 20 >&2
         exit 2
     fi
@@ -93,7 +97,7 @@ build() {
 
 # The program, built where that is needed, and what draws, where something is to be drawn.
 ready() {
-    if [ ! -x "$program" ] || [ -n "$(find "$here/crates" "$here/crates.txt" -newer "$program" -type f | head -n 1)" ]; then
+    if [ ! -x "$program" ] || [ -n "$(find "$here/crates" "$here/crates.txt" -name out -prune -o -newer "$program" -type f -print | head -n 1)" ]; then
         build
     fi
     [ -z "$board$svg" ] || drawer
@@ -109,19 +113,9 @@ listen() { # WHAT KEYS
     fi
 }
 
-# The program is for x86-64 and for the loader and C library that rt has beside its compiler; for another processor rt has an emulator.
+# The program is for x86-64 Linux, as `rt` is.
 run() { # WORDS...
-    if ! command -v rt >/dev/null; then
-        "$program" "$@"
-        return
-    fi
-    guide=$(rt doc)
-    tools=${guide%/docs/*}/on/$(uname -m)/toolchain
-    set -- "$tools/lib/ld-linux-x86-64.so.2" --library-path "$tools/lib" "$program" "$@"
-    if [ -x "$tools/bin/qemu-x86_64" ]; then
-        set -- "$tools/bin/qemu-x86_64" "$@"
-    fi
-    "$@"
+    "$program" "$@"
 }
 
 # --- What is written ---

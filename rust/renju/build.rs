@@ -5,7 +5,7 @@
 //! there is none for the target, a warning says so, and all that needs no linking works: `cargo check`,
 //! `cargo doc`, editors.
 //!
-//! What it writes is in cargo's `OUT_DIR`, and in `target/`, which `rt` owns.
+//! What it writes is in cargo's `OUT_DIR`, in `target/`, and in the crates' `out/`, which `rt` owns.
 
 #[path = "build/ar.rs"]
 mod ar;

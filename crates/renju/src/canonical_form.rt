@@ -9,8 +9,7 @@ use super::answer::number_word;
 use canonical::canonical_of;
 
 // The smallest view that gives the least of the eight turned boards by its cell bytes; that board to the front of `out`.
-#[unsafe(no_mangle)]
-pub extern "C" fn renju_canonical(cells: &[u8], out: &mut [u8]) -> u32
+pub fn renju_canonical(cells: &[u8], out: &mut [u8]) -> u32
     ensures { (result ≡ word (list_refusal (cells_refusal cells.now) out.old (canonical_cells cells.now))
         (canonical_view cells.now))
         × (out.new ≡ list_out (cells_refusal cells.now) out.old (canonical_cells cells.now)) }

@@ -12,8 +12,7 @@ use cells::{put_of, remove_of, turned_of};
 use point::turn_point;
 
 // A stone of the colour put at a point, in place of what stood there.
-#[unsafe(no_mangle)]
-pub extern "C" fn renju_put(cells: &mut [u8], code: u8, colour: u8) -> u32
+pub fn renju_put(cells: &mut [u8], code: u8, colour: u8) -> u32
     ensures { (result ≡ word (cells_refusal_for cells.old code colour) 0)
         × (cells.new ≡ after_put cells.old code colour) }
 {
@@ -21,8 +20,7 @@ pub extern "C" fn renju_put(cells: &mut [u8], code: u8, colour: u8) -> u32
 }
 
 // A point made empty.
-#[unsafe(no_mangle)]
-pub extern "C" fn renju_remove(cells: &mut [u8], code: u8) -> u32
+pub fn renju_remove(cells: &mut [u8], code: u8) -> u32
     ensures { (result ≡ word (cells_refusal_at cells.old code) 0)
         × (cells.new ≡ after_remove cells.old code) }
 {
@@ -30,8 +28,7 @@ pub extern "C" fn renju_remove(cells: &mut [u8], code: u8) -> u32
 }
 
 // The cell bytes of the board in a view.
-#[unsafe(no_mangle)]
-pub extern "C" fn renju_turn(cells: &[u8], view: u8, out: &mut [u8]) -> u32
+pub fn renju_turn(cells: &[u8], view: u8, out: &mut [u8]) -> u32
     ensures { (result ≡ list_word 1 (first (cells_refusal cells.now) (view_refusal view)) out.old
         (turn_cells view cells.now))
         × (out.new ≡ list_out (first (cells_refusal cells.now) (view_refusal view)) out.old
@@ -41,8 +38,7 @@ pub extern "C" fn renju_turn(cells: &[u8], view: u8, out: &mut [u8]) -> u32
 }
 
 // Where a view sends a point.
-#[unsafe(no_mangle)]
-pub extern "C" fn renju_turn_point(code: u8, view: u8) -> u32
+pub fn renju_turn_point(code: u8, view: u8) -> u32
     ensures { result ≡ word (first (code_refusal code) (view_refusal view)) (turn view code) }
 {
     number_word(turn_point(code, view))

@@ -8,8 +8,7 @@ use super::answer::count_word;
 use cells::counts_of;
 
 // 256 times White's stones plus Black's.
-#[unsafe(no_mangle)]
-pub extern "C" fn renju_counts(cells: &[u8]) -> u32
+pub fn renju_counts(cells: &[u8]) -> u32
     ensures { result ≡ word (cells_refusal cells.now) (counts_of cells.now) }
 {
     count_word(counts_of(cells))

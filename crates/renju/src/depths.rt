@@ -11,8 +11,7 @@ use super::answer::word;
 use depth::{DepthAnswer, strict_depth_of};
 
 // "256 times the depth plus the strict verdict". The verdict is the fast referee's, which asks for no depth.
-#[unsafe(no_mangle)]
-pub extern "C" fn renju_depth(cells: &[u8], code: u8) -> u32
+pub fn renju_depth(cells: &[u8], code: u8) -> u32
     ensures { result ≡ word (cells_refusal_at cells.now code)
         (256 * depth_of cells.now code + verdict_no (strict_of cells.now code)) }
 {

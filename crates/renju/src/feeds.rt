@@ -9,8 +9,7 @@ use super::answer::{count_word, number_word};
 use feed::{Message, longer, take_held};
 
 // A message at a client that holds `count` moves of a game in the leading bytes of `held`: the new count; the code stands behind them.
-#[unsafe(no_mangle)]
-pub extern "C" fn renju_feed_take(
+pub fn renju_feed_take(
     game: u32,
     held: &mut [u8],
     count: u16,
@@ -30,8 +29,7 @@ pub extern "C" fn renju_feed_take(
 }
 
 // Which of two held lists is longer, where one begins the other: 0 for neither, 1 for the first, 2 for the second.
-#[unsafe(no_mangle)]
-pub extern "C" fn renju_feed_missing(first: &[u8], second: &[u8]) -> u32
+pub fn renju_feed_missing(first: &[u8], second: &[u8]) -> u32
     ensures { result ≡ word (missing_refusal first.now second.now)
         (longer_of first.now second.now) }
 {

@@ -12,8 +12,7 @@ use game::{GameReport, referee_game};
 use lent::{head, keep, write_out};
 
 // The number of the first faulty move, from 1, or 0; to the front of `out` that number, the reason, the winner and the cells.
-#[unsafe(no_mangle)]
-pub extern "C" fn renju_game(moves: &[u8], out: &mut [u8]) -> u32
+pub fn renju_game(moves: &[u8], out: &mut [u8]) -> u32
     ensures { (result ≡ word (list_refusal (moves_refusal moves.now) out.old (game_bytes moves.now))
         (report_of moves.now).number)
         × (out.new ≡ list_out (moves_refusal moves.now) out.old (game_bytes moves.now)) }

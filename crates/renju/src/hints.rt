@@ -14,8 +14,7 @@ use hint::{win_check_of, win_plan_of};
 use rules::TestAnswer;
 
 // 1 where the line is acceptable for the colour, to move, else 0.
-#[unsafe(no_mangle)]
-pub extern "C" fn renju_win_check(cells: &[u8], colour: u8, line: &[u8]) -> u32
+pub fn renju_win_check(cells: &[u8], colour: u8, line: &[u8]) -> u32
     ensures { result ≡ word (check_refusal cells.now colour line.now)
         (digit (acceptable (player_of colour) cells.now line.now)) }
 {
@@ -23,8 +22,7 @@ pub extern "C" fn renju_win_check(cells: &[u8], colour: u8, line: &[u8]) -> u32
 }
 
 // The first acceptable line of at most `limit` attacks by comparing codes from the front: how many points it has, 0 for no line.
-#[unsafe(no_mangle)]
-pub extern "C" fn renju_win_plan(cells: &[u8], colour: u8, limit: u8, out: &mut [u8]) -> u32
+pub fn renju_win_plan(cells: &[u8], colour: u8, limit: u8, out: &mut [u8]) -> u32
     ensures { (result ≡ list_word 1 (plan_refusal cells.now colour limit out.old) out.old
         (plan_of (player_of colour) limit cells.now))
         × (out.new ≡ list_out (plan_refusal cells.now colour limit out.old) out.old

@@ -1,5 +1,5 @@
 // The host interface: the referee for callers in Rust and C, over numbers and byte slices. Each function answers one u32: the refusal
-// in the high half (0: none), the answer in the low.
+// in the high half (0: none), the answer in the low. `renju_c` exports each of them to those callers.
 #![tactic(auto)]
 
 mod answer;

@@ -16,8 +16,7 @@ use lists::{four_eyes_on, rows, rows_on};
 use referee::forbidden_points_of;
 
 // The colour's stones, as codes, ascending.
-#[unsafe(no_mangle)]
-pub extern "C" fn renju_stones(cells: &[u8], colour: u8, out: &mut [u8]) -> u32
+pub fn renju_stones(cells: &[u8], colour: u8, out: &mut [u8]) -> u32
     ensures { (result ≡ list_word 1 (cells_stones_refusal cells.now colour) out.old
         (stones_of (player_of colour) cells.now))
         × (out.new ≡ list_out (cells_stones_refusal cells.now colour) out.old
@@ -27,8 +26,7 @@ pub extern "C" fn renju_stones(cells: &[u8], colour: u8, out: &mut [u8]) -> u32
 }
 
 // The empty points, as codes, ascending.
-#[unsafe(no_mangle)]
-pub extern "C" fn renju_empty_points(cells: &[u8], out: &mut [u8]) -> u32
+pub fn renju_empty_points(cells: &[u8], out: &mut [u8]) -> u32
     ensures { (result ≡ list_word 1 (cells_refusal cells.now) out.old (empty_points cells.now))
         × (out.new ≡ list_out (cells_refusal cells.now) out.old (empty_points cells.now)) }
 {
@@ -36,8 +34,7 @@ pub extern "C" fn renju_empty_points(cells: &[u8], out: &mut [u8]) -> u32
 }
 
 // The points up to a distance along the four lines through a point, as codes, line by line.
-#[unsafe(no_mangle)]
-pub extern "C" fn renju_neighbors(
+pub fn renju_neighbors(
     cells: &[u8],
     code: u8,
     distance: u8,
@@ -53,8 +50,7 @@ pub extern "C" fn renju_neighbors(
 }
 
 // The colour's rows of a kind, four bytes each: key, start, stones mask, eyes mask.
-#[unsafe(no_mangle)]
-pub extern "C" fn renju_rows(cells: &[u8], colour: u8, kind: u8, out: &mut [u8]) -> u32
+pub fn renju_rows(cells: &[u8], colour: u8, kind: u8, out: &mut [u8]) -> u32
     ensures { (result ≡ list_word 4 (refusal_of cells.now (λ b. rows_refusal b colour kind)) out.old
         (rows_of (player_of colour) (kind_of kind) cells.now))
         × (out.new ≡ list_out (refusal_of cells.now (λ b. rows_refusal b colour kind)) out.old
@@ -68,8 +64,7 @@ pub extern "C" fn renju_rows(cells: &[u8], colour: u8, kind: u8, out: &mut [u8])
 }
 
 // .. those through a point.
-#[unsafe(no_mangle)]
-pub extern "C" fn renju_rows_on(cells: &[u8], code: u8, colour: u8, kind: u8, out: &mut [u8]) -> u32
+pub fn renju_rows_on(cells: &[u8], code: u8, colour: u8, kind: u8, out: &mut [u8]) -> u32
     ensures { (result ≡ list_word 4 (refusal_of cells.now (λ b. rows_on_refusal b code colour kind)) out.old
         (rows_on_point (player_of colour) (kind_of kind) cells.now code))
         × (out.new ≡ list_out (refusal_of cells.now (λ b. rows_on_refusal b code colour kind)) out.old
@@ -83,8 +78,7 @@ pub extern "C" fn renju_rows_on(cells: &[u8], code: u8, colour: u8, kind: u8, ou
 }
 
 // The points that make the colour's Fours through a point a five, as codes, line by line.
-#[unsafe(no_mangle)]
-pub extern "C" fn renju_four_eyes_on(cells: &[u8], code: u8, colour: u8, out: &mut [u8]) -> u32
+pub fn renju_four_eyes_on(cells: &[u8], code: u8, colour: u8, out: &mut [u8]) -> u32
     ensures { (result ≡ list_word 1 (refusal_of cells.now (λ b. refusal_for b code colour)) out.old
         (four_eyes (player_of colour) cells.now code))
         × (out.new ≡ list_out (refusal_of cells.now (λ b. refusal_for b code colour)) out.old
@@ -98,8 +92,7 @@ pub extern "C" fn renju_four_eyes_on(cells: &[u8], code: u8, colour: u8, out: &m
 }
 
 // The points forbidden to Black, two bytes each: kind and code, by ascending code.
-#[unsafe(no_mangle)]
-pub extern "C" fn renju_forbidden_points(cells: &[u8], out: &mut [u8]) -> u32
+pub fn renju_forbidden_points(cells: &[u8], out: &mut [u8]) -> u32
     ensures { (result ≡ list_word 2 (cells_refusal cells.now) out.old (forbidden_list cells.now))
         × (out.new ≡ list_out (cells_refusal cells.now) out.old (forbidden_list cells.now)) }
 {

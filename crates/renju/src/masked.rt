@@ -9,8 +9,7 @@ ghost use Rattle.renju.specs.Answers.{word, line_by};
 use super::answer::mask_word;
 use line::Line;
 
-#[unsafe(no_mangle)]
-pub extern "C" fn renju_line_starts(blacks: u16, whites: u16, size: u8, colour: u8, kind: u8) -> u32
+pub fn renju_line_starts(blacks: u16, whites: u16, size: u8, colour: u8, kind: u8) -> u32
     ensures { result ≡ word (line_rows_refusal (line_by blacks whites size) colour kind)
         (mask_of 16 (line_rows_at (line_by blacks whites size) colour kind)) }
 {
@@ -23,8 +22,7 @@ pub extern "C" fn renju_line_starts(blacks: u16, whites: u16, size: u8, colour: 
 }
 
 // .. those through a cell.
-#[unsafe(no_mangle)]
-pub extern "C" fn renju_line_starts_on(
+pub fn renju_line_starts_on(
     blacks: u16,
     whites: u16,
     size: u8,
@@ -43,8 +41,7 @@ pub extern "C" fn renju_line_starts_on(
     .row_starts_on(cell, colour, kind))
 }
 
-#[unsafe(no_mangle)]
-pub extern "C" fn renju_line_eyes(blacks: u16, whites: u16, size: u8, colour: u8, kind: u8) -> u32
+pub fn renju_line_eyes(blacks: u16, whites: u16, size: u8, colour: u8, kind: u8) -> u32
     ensures { result ≡ word (line_rows_refusal (line_by blacks whites size) colour kind)
         (mask_of 16 (eye_of_some size (own (line_by blacks whites size) colour) (other (line_by blacks whites size) colour) (kind_of kind)
         (line_rows_at (line_by blacks whites size) colour kind))) }

@@ -9,8 +9,7 @@ use super::answer::count_word;
 use mending::write_mended;
 
 // The moves of a comma list that are kept, and the item that slips with its reason: two lines, each ended by byte 10; how long they are.
-#[unsafe(no_mangle)]
-pub extern "C" fn renju_mend(text: &[u8], out: &mut [u8]) -> u32
+pub fn renju_mend(text: &[u8], out: &mut [u8]) -> u32
     ensures { (result ≡ list_word 1 (text_refusal text.now) out.old (mended_text text.now))
         × (out.new ≡ list_out (text_refusal text.now) out.old (mended_text text.now)) }
 {

@@ -11,8 +11,7 @@ use lent::write_out;
 use text::read_diagram_cells;
 
 // The cells of the diagram that a text is, whatever bytes it has, to the front of `cells`.
-#[unsafe(no_mangle)]
-pub extern "C" fn renju_read_diagram(text: &[u8], cells: &mut [u8]) -> u32
+pub fn renju_read_diagram(text: &[u8], cells: &mut [u8]) -> u32
     ensures { (result ≡ list_word 1 (diagram_text_refusal text.now) cells.old (diagram_text_cells text.now))
         × (cells.new ≡ list_out (diagram_text_refusal text.now) cells.old
         (diagram_text_cells text.now)) }
@@ -24,8 +23,7 @@ pub extern "C" fn renju_read_diagram(text: &[u8], cells: &mut [u8]) -> u32
 }
 
 // The stones text of that diagram: how many bytes it has.
-#[unsafe(no_mangle)]
-pub extern "C" fn renju_convert(text: &[u8], out: &mut [u8]) -> u32
+pub fn renju_convert(text: &[u8], out: &mut [u8]) -> u32
     ensures { (result ≡ list_word 1 (convert_refusal text.now) out.old (converted text.now))
         × (out.new ≡ list_out (convert_refusal text.now) out.old (converted text.now)) }
 {

@@ -12,8 +12,7 @@ use super::answer::{count_word, verdict_word};
 use second::{forbidden, forbidden_points, forbidden_strict, four_eyes_on, rows, rows_on};
 
 // The colour's rows of a kind, four bytes each: key, start, stones mask, eyes mask.
-#[unsafe(no_mangle)]
-pub extern "C" fn renju_second_rows(cells: &[u8], colour: u8, kind: u8, out: &mut [u8]) -> u32
+pub fn renju_second_rows(cells: &[u8], colour: u8, kind: u8, out: &mut [u8]) -> u32
     ensures { (result ≡ list_word 4 (cells_rows_refusal cells.now colour kind) out.old
         (rows_of (player_of colour) (kind_of kind) cells.now))
         × (out.new ≡ list_out (cells_rows_refusal cells.now colour kind) out.old
@@ -23,14 +22,7 @@ pub extern "C" fn renju_second_rows(cells: &[u8], colour: u8, kind: u8, out: &mu
 }
 
 // .. those through a point.
-#[unsafe(no_mangle)]
-pub extern "C" fn renju_second_rows_on(
-    cells: &[u8],
-    code: u8,
-    colour: u8,
-    kind: u8,
-    out: &mut [u8],
-) -> u32
+pub fn renju_second_rows_on(cells: &[u8], code: u8, colour: u8, kind: u8, out: &mut [u8]) -> u32
     ensures { (result ≡ list_word 4 (cells_rows_on_refusal cells.now code colour kind) out.old
         (rows_on_point (player_of colour) (kind_of kind) cells.now code))
         × (out.new ≡ list_out (cells_rows_on_refusal cells.now code colour kind) out.old
@@ -40,13 +32,7 @@ pub extern "C" fn renju_second_rows_on(
 }
 
 // The points that make the colour's Fours through a point a five, as codes, line by line.
-#[unsafe(no_mangle)]
-pub extern "C" fn renju_second_four_eyes_on(
-    cells: &[u8],
-    code: u8,
-    colour: u8,
-    out: &mut [u8],
-) -> u32
+pub fn renju_second_four_eyes_on(cells: &[u8], code: u8, colour: u8, out: &mut [u8]) -> u32
     ensures { (result ≡ list_word 1 (cells_refusal_for cells.now code colour) out.old
         (four_eyes (player_of colour) cells.now code))
         × (out.new ≡ list_out (cells_refusal_for cells.now code colour) out.old
@@ -56,24 +42,21 @@ pub extern "C" fn renju_second_four_eyes_on(
 }
 
 // The plain verdict, at an empty point.
-#[unsafe(no_mangle)]
-pub extern "C" fn renju_second_forbidden(cells: &[u8], code: u8) -> u32
+pub fn renju_second_forbidden(cells: &[u8], code: u8) -> u32
     ensures { result ≡ word (cells_forbidden_refusal cells.now code) (verdict_no (plain_of cells.now code)) }
 {
     verdict_word(forbidden(cells, code))
 }
 
 // The strict verdict: none at an occupied point, and where the stone completes a five.
-#[unsafe(no_mangle)]
-pub extern "C" fn renju_second_forbidden_strict(cells: &[u8], code: u8) -> u32
+pub fn renju_second_forbidden_strict(cells: &[u8], code: u8) -> u32
     ensures { result ≡ word (cells_refusal_at cells.now code) (verdict_no (strict_of cells.now code)) }
 {
     verdict_word(forbidden_strict(cells, code))
 }
 
 // The points forbidden to Black, two bytes each: kind and code, by ascending code.
-#[unsafe(no_mangle)]
-pub extern "C" fn renju_second_forbidden_points(cells: &[u8], out: &mut [u8]) -> u32
+pub fn renju_second_forbidden_points(cells: &[u8], out: &mut [u8]) -> u32
     ensures { (result ≡ list_word 2 (cells_refusal cells.now) out.old (forbidden_list cells.now))
         × (out.new ≡ list_out (cells_refusal cells.now) out.old (forbidden_list cells.now)) }
 {

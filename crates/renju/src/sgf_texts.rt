@@ -9,8 +9,7 @@ use super::answer::count_word;
 use sgf::{from_sgf, to_sgf};
 
 // The SGF text of a game's moves: how many bytes it has.
-#[unsafe(no_mangle)]
-pub extern "C" fn renju_to_sgf(moves: &[u8], out: &mut [u8]) -> u32
+pub fn renju_to_sgf(moves: &[u8], out: &mut [u8]) -> u32
     ensures { (result ≡ list_word 1 (moves_refusal moves.now) out.old (sgf_text moves.now))
         × (out.new ≡ list_out (moves_refusal moves.now) out.old (sgf_text moves.now)) }
 {
@@ -18,8 +17,7 @@ pub extern "C" fn renju_to_sgf(moves: &[u8], out: &mut [u8]) -> u32
 }
 
 // The moves of an SGF text: how many they are.
-#[unsafe(no_mangle)]
-pub extern "C" fn renju_from_sgf(text: &[u8], out: &mut [u8]) -> u32
+pub fn renju_from_sgf(text: &[u8], out: &mut [u8]) -> u32
     ensures { (result ≡ list_word 1 (sgf_refusal text.now) out.old (sgf_moves text.now))
         × (out.new ≡ list_out (sgf_refusal text.now) out.old (sgf_moves text.now)) }
 {

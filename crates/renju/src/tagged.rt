@@ -8,8 +8,7 @@ use super::answer::{count_word, number_word};
 use stored::{from_tagged, tagged_view, to_tagged};
 
 // The record of moves in a view: how many bytes it has. 0 is the view of a game in the old form.
-#[unsafe(no_mangle)]
-pub extern "C" fn renju_to_tagged(moves: &[u8], view: u8, out: &mut [u8]) -> u32
+pub fn renju_to_tagged(moves: &[u8], view: u8, out: &mut [u8]) -> u32
     ensures { (result ≡ list_word 1 (tagged_refusal view moves.now) out.old (record_of view moves.now))
         × (out.new ≡ list_out (tagged_refusal view moves.now) out.old (record_of view moves.now)) }
 {
@@ -17,8 +16,7 @@ pub extern "C" fn renju_to_tagged(moves: &[u8], view: u8, out: &mut [u8]) -> u32
 }
 
 // The moves of a record in view 0: how many they are.
-#[unsafe(no_mangle)]
-pub extern "C" fn renju_from_tagged(record: &[u8], out: &mut [u8]) -> u32
+pub fn renju_from_tagged(record: &[u8], out: &mut [u8]) -> u32
     ensures { (result ≡ list_word 1 (back_refusal «record».now) out.old (stored_moves «record».now))
         × (out.new ≡ list_out (back_refusal «record».now) out.old (stored_moves «record».now)) }
 {
@@ -26,8 +24,7 @@ pub extern "C" fn renju_from_tagged(record: &[u8], out: &mut [u8]) -> u32
 }
 
 // The view of a record.
-#[unsafe(no_mangle)]
-pub extern "C" fn renju_tagged_view(record: &[u8]) -> u32
+pub fn renju_tagged_view(record: &[u8]) -> u32
     ensures { result ≡ word (record_refusal «record».now) (stored_view «record».now) }
 {
     number_word(tagged_view(record))

@@ -13,16 +13,14 @@ use lent::write_out;
 use text::{read_cells, read_point};
 
 // The code of the point that a text names, alone in it.
-#[unsafe(no_mangle)]
-pub extern "C" fn renju_read_point(text: &[u8]) -> u32
+pub fn renju_read_point(text: &[u8]) -> u32
     ensures { result ≡ word (point_text_refusal text.now) (item_code text.now) }
 {
     number_word(read_point(text))
 }
 
 // The cells that a text says, stones or moves, to the front of `cells`.
-#[unsafe(no_mangle)]
-pub extern "C" fn renju_read(text: &[u8], cells: &mut [u8]) -> u32
+pub fn renju_read(text: &[u8], cells: &mut [u8]) -> u32
     ensures { (result ≡ list_word 1 (read_refusal text.now) cells.old (read_cells text.now))
         × (cells.new ≡ list_out (read_refusal text.now) cells.old (read_cells text.now)) }
 {
@@ -33,8 +31,7 @@ pub extern "C" fn renju_read(text: &[u8], cells: &mut [u8]) -> u32
 }
 
 // The plain diagram, which `renju_read_diagram` reads back.
-#[unsafe(no_mangle)]
-pub extern "C" fn renju_to_string(cells: &[u8], out: &mut [u8]) -> u32
+pub fn renju_to_string(cells: &[u8], out: &mut [u8]) -> u32
     ensures { (result ≡ list_word 1 (cells_refusal cells.now) out.old (diagram_of cells.now))
         × (out.new ≡ list_out (cells_refusal cells.now) out.old (diagram_of cells.now)) }
 {
@@ -42,8 +39,7 @@ pub extern "C" fn renju_to_string(cells: &[u8], out: &mut [u8]) -> u32
 }
 
 // The diagram with its rows numbered and its columns lettered.
-#[unsafe(no_mangle)]
-pub extern "C" fn renju_to_pretty_string(cells: &[u8], out: &mut [u8]) -> u32
+pub fn renju_to_pretty_string(cells: &[u8], out: &mut [u8]) -> u32
     ensures { (result ≡ list_word 1 (cells_refusal cells.now) out.old (numbered_of cells.now))
         × (out.new ≡ list_out (cells_refusal cells.now) out.old (numbered_of cells.now)) }
 {

@@ -11,8 +11,7 @@ use board::Board;
 use referee::{forbidden, forbidden_strict_of};
 
 // The plain verdict, at an empty point.
-#[unsafe(no_mangle)]
-pub extern "C" fn renju_forbidden(cells: &[u8], code: u8) -> u32
+pub fn renju_forbidden(cells: &[u8], code: u8) -> u32
     ensures { result ≡ word (refusal_of cells.now (λ b. forbidden_refusal b code))
         (verdict_no (plain_of cells.now code)) }
 {
@@ -24,8 +23,7 @@ pub extern "C" fn renju_forbidden(cells: &[u8], code: u8) -> u32
 }
 
 // The strict verdict: none at an occupied point, and where the stone completes a five.
-#[unsafe(no_mangle)]
-pub extern "C" fn renju_forbidden_strict(cells: &[u8], code: u8) -> u32
+pub fn renju_forbidden_strict(cells: &[u8], code: u8) -> u32
     ensures { result ≡ word (cells_refusal_at cells.now code) (verdict_no (strict_of cells.now code)) }
 {
     verdict_word(forbidden_strict_of(cells, code))

@@ -20,7 +20,7 @@ use Rattle.lent.proofs.Laws.{wrote_as, wrote-keep, wrote-held, length-zeros}
 use Rattle.text.specs.Bytes.{comma, digit_zero, digit_nine, trim, parts, text_refusal}
 use Rattle.text.specs.Points.{digit_value, number_of, column_in, row_in, item_at, item_refusal, item_code, items_refusal, item_codes}
 use Rattle.text.specs.Points.{leading_codes, slip_number, points_refusal, leading_in, slip_in, point_text_refusal, leading_answer, list_found}
-use Rattle.text.specs.declared.point.Item.{Item}
+use Rattle.text.specs.declared.point_text.Item.{Item}
 use Rattle.text.specs.declared.points.Leading.{Leading}
 use Rattle.text.proofs.Places.{parts_last, parts_cut}
 use Rattle.text.proofs.Marks.{next-in, next-is, next-rest, next-none}

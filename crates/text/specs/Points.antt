@@ -5,7 +5,7 @@ use Rattle.rules.specs.Refusals.{no_column, no_row, unless, first}
 use Rattle.rules.specs.Point.{code_of}
 use Rattle.lent.specs.Lists.{padded}
 use Rattle.text.specs.Bytes.{comma, digit_zero, digit_nine, capital_a, capital_o, small_a, small_o, trim, parts, text_refusal}
-use Rattle.text.specs.declared.point.Item.{Item}
+use Rattle.text.specs.declared.point_text.Item.{Item}
 use Rattle.text.specs.declared.points.Leading.{Leading}
 
 -- ---- a point

@@ -6,7 +6,7 @@ mod bytes;
 mod diagram;
 mod forms;
 mod line_text;
-mod point;
+mod point_text;
 mod points;
 
 pub use boards::{read_board, read_diagram};
@@ -14,5 +14,5 @@ pub use bytes::{is_space, leading_space, text_refusal, trimmed};
 pub use diagram::read_diagram_cells;
 pub use forms::read_cells;
 pub use line_text::read_line;
-pub use point::read_point;
+pub use point_text::read_point;
 pub use points::{Leading, read_leading, read_points};

@@ -4,7 +4,7 @@ ghost use Rattle.lent.specs.Lists.{list_out, counted};
 ghost use Rattle.text.specs.Points.{points_in, list_text_refusal, leading_answer, list_found, leading_found};
 
 use super::bytes::{text_refusal, trimmed};
-use super::point::item_in;
+use super::point_text::item_in;
 use lent::{find, head, keep, tail, write_out};
 use rules::CountAnswer;
 

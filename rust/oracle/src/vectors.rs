@@ -27,6 +27,16 @@ pub fn files() -> Vec<(&'static str, String)> {
     files
 }
 
+/// Where a file lies in the repository. The records are the inputs of the programs that replay them:
+/// `rt` runs a program on the files of its crate, and takes no link.
+#[must_use]
+pub fn place(name: &str) -> String {
+    match name.strip_suffix(".txt") {
+        Some(of) => format!("crates/replay_{of}/stdin"),
+        None => format!("vectors/{name}"),
+    }
+}
+
 /// Records in the making.
 #[derive(Default)]
 struct Records(String);

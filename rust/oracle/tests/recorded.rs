@@ -8,8 +8,8 @@ use std::fs;
 use std::path::Path;
 
 fn recorded(name: &str) -> String {
-    let folder = Path::new(env!("CARGO_MANIFEST_DIR")).join("../../vectors");
-    fs::read_to_string(folder.join(name)).expect("a recorded file")
+    let root = Path::new(env!("CARGO_MANIFEST_DIR")).join("../..");
+    fs::read_to_string(root.join(vectors::place(name))).expect("a recorded file")
 }
 
 fn fields_of(text: &str, letter: &str) -> Vec<Vec<String>> {

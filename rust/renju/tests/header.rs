@@ -62,7 +62,7 @@ fn raw_prototypes() -> Vec<String> {
 
 /// The functions of the source that the archive is compiled from, in the words of C.
 fn source_prototypes() -> Vec<String> {
-    let folder = Path::new(env!("CARGO_MANIFEST_DIR")).join("../../crates/renju/src");
+    let folder = Path::new(env!("CARGO_MANIFEST_DIR")).join("../../crates/renju_c/src");
     let mut found = Vec::new();
     for file in fs::read_dir(folder).expect("the archive's source") {
         let path = file.expect("a file").path();
@@ -77,7 +77,7 @@ fn source_prototypes() -> Vec<String> {
 
 /// The functions of one file that are symbols of the archive, under their own names.
 fn exported(code: &str) -> Vec<String> {
-    let mut parts = code.split("#[no_mangle] pub extern \"C\" ");
+    let mut parts = code.split("#[unsafe(no_mangle)] pub extern \"C\" ");
     let rest = parts.next().unwrap_or_default();
     assert!(!rest.contains("extern"), "under another name: {rest}");
     let declarations = parts.map(|part| part.split_once("ensures").expect("a contract"));

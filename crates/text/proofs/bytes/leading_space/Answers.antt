@@ -15,12 +15,11 @@ returns-then-not-is_space c =
     (ap not (sym c.is_space.ensures ∙ c.if-not-is_space.true)))
 
 pub loop-i-preserved : goal.loop-i-preserved
-loop-i-preserved c =
-    (
-      omega arith,
-      c.loop-i.invariant.1 ∙ first_step _ c.args.s.now c.loop-i.i (omega arith)
-          (ap not (sym c.is_space.ensures ∙ c.if-not-is_space.false)),
-    )
+loop-i-preserved c = (
+  omega arith,
+  c.loop-i.invariant.1 ∙ first_step _ c.args.s.now c.loop-i.i (omega arith)
+      (ap not (sym c.is_space.ensures ∙ c.if-not-is_space.false)),
+)
 
 pub returns : goal.returns
 returns c = sym (c.loop-i.invariant.1 ∙ first-end _ c.args.s.now c.loop-i.i (omega arith))

@@ -16,12 +16,11 @@ returns-then-not-is_space c =
     (sym c.is_space.ensures ∙ c.if-not-is_space.true))
 
 pub loop-i-preserved : goal.loop-i-preserved
-loop-i-preserved c =
-    (
-      omega arith,
-      c.loop-i.invariant.1 ∙ end_step c.args.s.now c.loop-i.i (omega arith) (omega arith)
-          (sym c.is_space.ensures ∙ c.if-not-is_space.false),
-    )
+loop-i-preserved c = (
+  omega arith,
+  c.loop-i.invariant.1 ∙ end_step c.args.s.now c.loop-i.i (omega arith) (omega arith)
+      (sym c.is_space.ensures ∙ c.if-not-is_space.false),
+)
 
 pub returns : goal.returns
 returns c =

@@ -1,7 +1,7 @@
--- `text::point::refused_item` meets its contract. Assumes nothing.
+-- `text::point_text::refused_item` meets its contract. Assumes nothing.
 use mathlib.Core.Path.{refl}
 use Rattle.text.specs.Points.{refused_item}
-use Rattle.text.proofs.point.refused_item.Goals as goal
+use Rattle.text.proofs.point_text.refused_item.Goals as goal
 
 pub returns : goal.returns
 unfolding refused_item

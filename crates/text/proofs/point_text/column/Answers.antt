@@ -1,9 +1,9 @@
--- `text::point::column` meets its contract: its arms are the cases of the definition. Assumes nothing.
+-- `text::point_text::column` meets its contract: its arms are the cases of the definition. Assumes nothing.
 use native.Mathlib.Omega.{arith}
 use borrow.Author.Tests.{le-leb, lt-leb}
 use Rattle.text.specs.Bytes.{capital_a, capital_o, small_a, small_o}
 use Rattle.text.specs.Points.{column_of}
-use Rattle.text.proofs.point.column.Goals as goal
+use Rattle.text.proofs.point_text.column.Goals as goal
 
 pub returns-in-65-to-79 : goal.returns-in-65-to-79
 unfolding column_of

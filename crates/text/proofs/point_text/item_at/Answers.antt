@@ -1,10 +1,10 @@
--- `text::point::item_at` meets its contract: its ways are the refusals in order, then the code. Assumes nothing.
+-- `text::point_text::item_at` meets its contract: its ways are the refusals in order, then the code. Assumes nothing.
 use native.Mathlib.Omega.{arith}
 use borrow.Author.Rules.{rules}
 use borrow.Author.Tests.{le-leb, lt-leb, lt-ltb, le-ltb}
 use Rattle.rules.specs.Refusals.{first, unless}
 use Rattle.text.specs.Points.{place_refusal, refused_item, item_at}
-use Rattle.text.proofs.point.item_at.Goals as goal
+use Rattle.text.proofs.point_text.item_at.Goals as goal
 
 pub returns-then-x-ge15 : goal.returns-then-x-ge15
 unfolding item_at place_refusal first unless refused_item

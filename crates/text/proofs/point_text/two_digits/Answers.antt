@@ -1,8 +1,8 @@
--- `text::point::two_digits` meets its contract: each of the two counts at most 16, so the number fits. Assumes nothing.
+-- `text::point_text::two_digits` meets its contract: each of the two counts at most 16, so the number fits. Assumes nothing.
 use native.Mathlib.Omega.{arith}
 use borrow.Author.Rules.{rules}
 use Rattle.text.proofs.Items.{digit-small}
-use Rattle.text.proofs.point.two_digits.Goals as goal
+use Rattle.text.proofs.point_text.two_digits.Goals as goal
 
 pub overflow_mul-result : goal.overflow_mul-result
 overflow_mul-result c = omega (arith, digit-small c.args.b)

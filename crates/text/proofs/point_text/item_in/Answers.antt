@@ -1,7 +1,7 @@
--- `text::point::item_in` meets its contract: what it calls says it. Assumes nothing.
+-- `text::point_text::item_in` meets its contract: what it calls says it. Assumes nothing.
 use borrow.Author.Rules.{rules}
 use Rattle.text.specs.Points.{column_in, row_in}
-use Rattle.text.proofs.point.item_in.Goals as goal
+use Rattle.text.proofs.point_text.item_in.Goals as goal
 
 pub returns : goal.returns
 unfolding column_in row_in

@@ -1,8 +1,8 @@
--- `text::point::read_point` meets its contract: what it calls says it. Assumes nothing.
+-- `text::point_text::read_point` meets its contract: what it calls says it. Assumes nothing.
 use mathlib.Core.Path.{◌∙◌}
 use borrow.Author.Rules.{rules}
 use Rattle.text.proofs.Items.{item-given}
-use Rattle.text.proofs.point.read_point.Goals as goal
+use Rattle.text.proofs.point_text.read_point.Goals as goal
 
 pub returns : goal.returns
 returns c =

@@ -1,9 +1,9 @@
--- `text::point::number` meets its contract: one digit, two, or no number. Assumes nothing.
+-- `text::point_text::number` meets its contract: one digit, two, or no number. Assumes nothing.
 use mathlib.Core.Path.{sym, ◌∙◌}
 use native.Mathlib.Omega.{arith}
 use borrow.Author.Rules.{rules}
 use Rattle.text.proofs.Items.{number-one, number-two, number-none}
-use Rattle.text.proofs.point.number.Goals as goal
+use Rattle.text.proofs.point_text.number.Goals as goal
 
 pub returns-then-n-eq2 : goal.returns-then-n-eq2
 returns-then-n-eq2 c = c.digit_value.ensures ∙ sym (number-one c.args.s.now (omega arith))

@@ -1,9 +1,9 @@
--- `text::point::digit_value` meets its contract: its arms are the cases of the definition. Assumes nothing.
+-- `text::point_text::digit_value` meets its contract: its arms are the cases of the definition. Assumes nothing.
 use native.Mathlib.Omega.{arith}
 use borrow.Author.Tests.{le-leb, lt-leb}
 use Rattle.text.specs.Bytes.{digit_zero, digit_nine}
 use Rattle.text.specs.Points.{digit_value}
-use Rattle.text.proofs.point.digit_value.Goals as goal
+use Rattle.text.proofs.point_text.digit_value.Goals as goal
 
 pub returns-in-48-to-57 : goal.returns-in-48-to-57
 unfolding digit_value

@@ -1,0 +1,16 @@
+// How deep the strict question at one point of 225 cell bytes goes, with its verdict.
+ghost use Rattle.std.specs.Prelude.{◌≡◌, ◌+◌, ◌*◌};
+ghost use Rattle.rules.specs.Numbers.{verdict_no};
+ghost use Rattle.rules.specs.Forbidden.{strict_of};
+ghost use Rattle.rules.specs.Depth.{depth_of};
+ghost use Rattle.cells.specs.Cells.{cells_refusal_at};
+ghost use Rattle.renju.specs.Answers.{word};
+
+// "256 times the depth plus the strict verdict". The verdict is the fast referee's, which asks for no depth.
+#[unsafe(no_mangle)]
+pub extern "C" fn renju_depth(cells: &[u8], code: u8) -> u32
+    ensures { result ≡ word (cells_refusal_at cells.now code)
+        (256 * depth_of cells.now code + verdict_no (strict_of cells.now code)) }
+{
+    renju::renju_depth(cells, code)
+}
