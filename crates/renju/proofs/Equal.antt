@@ -11,6 +11,7 @@ use lib.ListN.{get_or}
 use borrow.Author.Tests.{eqb-true, eqb-false}
 use contract.Lifetimes.{Lfts}
 use denote.Ref.{Bor}
+use denote.MutBor.{MutBor}
 use Rattle.rules.specs.Numbers.{player_of, kind_of}
 use Rattle.rules.specs.Refusals.{occupied, unless, first, code_refusal, colour_refusal, kind_refusal}
 use Rattle.rules.specs.Answers.{verdict_answer}
@@ -64,7 +65,7 @@ abbrev pub SameAnswer : {R S S' : Type 0} → (R → S → Type 0) → (R → S'
 SameAnswer {R} {S} {S'} fast second = (r r' : R) (after : S) (after' : S') → fast r after → second r' after' → r ≡ r'
 
 -- .. and so are the bytes of the buffer that each was lent
-abbrev pub SameList : {R S S' : Type 0} → (R → S → Type 0) → (R → S' → Type 0) → (S → Bor (List ℕ)) → (S' → Bor (List ℕ)) → Type 0
+abbrev pub SameList : {R S S' : Type 0} → (R → S → Type 0) → (R → S' → Type 0) → (S → MutBor (List ℕ)) → (S' → MutBor (List ℕ)) → Type 0
 SameList {R} {S} {S'} fast second lent lent' =
     (r r' : R) (after : S) (after' : S') → fast r after → second r' after' → (r ≡ r') × ((lent after).now ≡ (lent' after').now)
 
@@ -154,7 +155,7 @@ module _ {A : Type 0} (answer : ℕ → List ℕ → List ℕ → A) {told told'
 
 -- ---- the host interface: the same cell bytes, numbers and lent buffer are handed to both
 
-module _ (κs : Lfts 2) (c : Bor (List ℕ)) (out : Bor (List ℕ)) where
+module _ (κs : Lfts 2) (c : Bor (List ℕ)) (out : MutBor (List ℕ)) where
   pub rows-equal : (colour kind : ℕ) → SameList
       (renju-rows.Post κs (c, (colour, (kind, (out, tt)))))
       (renju-second-rows.Post κs (c, (colour, (kind, (out, tt)))))
@@ -193,7 +194,7 @@ module _ (b : Board) (sound : board_refusal b ≡ 0) (c : Bor (List ℕ)) (same 
   none-refused : board_refusal b ≡ cells_refusal c.now
   none-refused = sound ∙ sym (ap cells_refusal same ∙ cells-pass (cells b) (cells-cells_of b.lines))
 
-  module _ (κs : Lfts 1) (κs' : Lfts 2) (out : Bor (List ℕ)) where
+  module _ (κs : Lfts 1) (κs' : Lfts 2) (out : MutBor (List ℕ)) where
     pub board-rows-equal : (colour kind : ℕ) → SameList
         (lists-rows.Post κs (b, (colour, (kind, (out, tt)))))
         (second-rows.Post κs' (c, (colour, (kind, (out, tt)))))

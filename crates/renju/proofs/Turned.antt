@@ -13,6 +13,7 @@ use lib.Seq.{take_at}
 use borrow.Author.Tests.{eqb-true, eqb-false}
 use contract.Lifetimes.{Lfts}
 use denote.Ref.{Bor}
+use denote.MutBor.{MutBor}
 use Rattle.rules.specs.Refusals.{no_room, unless, first, view_refusal}
 use Rattle.rules.specs.Views.{turn_cells, undo, then_view}
 use Rattle.rules.specs.Answers.{number_answer}
@@ -81,7 +82,7 @@ turned-list c out v ok hv h =
       h.1 ∙ ap (λ (n : ℕ). list_out n out (turn_cells v c)) none,
     )
 
-module _ (κs : Lfts 2) (κ : Lfts 0) (cells bytes out out' : Bor (List ℕ)) (v r : ℕ) (small : r < 65536)
+module _ (κs : Lfts 2) (κ : Lfts 0) (cells bytes : Bor (List ℕ)) (out out' : MutBor (List ℕ)) (v r : ℕ) (small : r < 65536)
     (sent : Gave (λ n s. renju-turn.Post κs (cells, (v, (out, tt))) n s × (bytes.now ≡ take 225 s.1.1.0.now)) r) where
   abbrev c : List ℕ
   c = cells.now

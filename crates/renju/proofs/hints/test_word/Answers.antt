@@ -1,0 +1,14 @@
+-- `renju::hints::test_word` meets its contract: its arms are the cases of the definition. Assumes nothing.
+use mathlib.Core.Path.{◌∙◌, ap}
+use Rattle.renju.specs.Answers.{word}
+use Rattle.renju.specs.Hints.{test_word}
+use borrow.Author.Rules.{rules}
+use Rattle.renju.proofs.hints.test_word.Goals as goal
+
+pub returns-in-Is : goal.returns-in-Is
+unfolding test_word
+returns-in-Is c = rw c.in-Is.is (c.word.ensures ∙ ap (word 0) c.one_if.ensures)
+
+pub returns-in-Refused : goal.returns-in-Refused
+unfolding test_word
+returns-in-Refused c = rw c.in-Refused.is c.word-in-Refused.ensures

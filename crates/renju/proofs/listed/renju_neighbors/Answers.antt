@@ -1,0 +1,8 @@
+-- `renju::listed::renju_neighbors` meets its contract: the number of what `cells` lists. Assumes nothing.
+use mathlib.Core.Path.{refl}
+use Rattle.renju.proofs.Words.{answered-count}
+use borrow.Author.Rules.{rules}
+use Rattle.renju.proofs.listed.renju_neighbors.Goals as goal
+
+pub returns : goal.returns
+returns c = answered-count 1 refl refl _ c.count_word.ensures c.neighbors_of.ensures

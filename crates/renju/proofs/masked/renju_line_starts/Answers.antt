@@ -1,0 +1,9 @@
+-- `renju::masked::renju_line_starts` meets its contract: the number of what the line answers. Assumes nothing.
+use mathlib.Core.Path.{◌∙◌, ap}
+use Rattle.renju.specs.Answers.{mask_word}
+use Rattle.renju.proofs.Words.{mask_word_lem}
+use borrow.Author.Rules.{rules}
+use Rattle.renju.proofs.masked.renju_line_starts.Goals as goal
+
+pub returns : goal.returns
+returns c = c.mask_word.ensures ∙ ap mask_word c.row_starts.ensures ∙ mask_word_lem _ _

@@ -1,0 +1,8 @@
+-- `renju::second_referee::renju_second_rows_on` meets its contract: what the second referee answers of the cells, as a word. Assumes nothing.
+use mathlib.Core.Path.{refl}
+use Rattle.renju.proofs.Words.{answered-count}
+use borrow.Author.Rules.{rules}
+use Rattle.renju.proofs.second_referee.renju_second_rows_on.Goals as goal
+
+pub returns : goal.returns
+returns c = answered-count 4 refl refl _ c.count_word.ensures c.rows_on.ensures
