@@ -3,74 +3,73 @@ ghost use Rattle.std.specs.Prelude.{◌<◌};
 
 use super::byte_at;
 use super::tally::sum;
-use libc::STDOUT_FILENO;
 
-pub fn say(words: &[u8]) {
-    io::write_all(STDOUT_FILENO, words);
+pub fn say<R: Print>(rt: &R, words: &[u8]) {
+    let _ = rt.write_all(words);
 }
 
-pub fn say_number(n: u64) {
-    io::print_decimal(STDOUT_FILENO, n);
+pub fn say_number<R: Print>(rt: &R, n: u64) {
+    let _ = rt.print(n);
 }
 
 // A record of which some answers differ, where fewer than three such were written before.
-pub(crate) fn show(record: &[u8], differ: u32, before: u64) {
+pub(crate) fn show<R: Print>(rt: &R, record: &[u8], differ: u32, before: u64) {
     if differ == 0 {
         return;
     }
     if before < 3 {
-        say(record);
-        say(b"\n");
+        say(rt, record);
+        say(rt, b"\n");
     }
 }
 
 // The lines of the letters, of which there are 15 at the most; one for what is no record, where there is some; and the last line.
-pub fn say_counts(letters: &[u8], counts: &[u64; 64]) {
+pub fn say_counts<R: Print>(rt: &R, letters: &[u8], counts: &[u64; 64]) {
     let mut differ = counts[62];
     let mut k = 0u8;
     while k < 15 {
-        differ = say_row(differ, byte_at(letters, k as usize), counts, k);
+        differ = say_row(rt, differ, byte_at(letters, k as usize), counts, k);
         k += 1;
     }
     if counts[60] != 0 {
-        say_number(counts[60]);
-        say(b" lines are no records\n");
+        say_number(rt, counts[60]);
+        say(rt, b" lines are no records\n");
     }
-    say_verdict(differ);
+    say_verdict(rt, differ);
 }
 
 // The line of a letter, and how many answers differ with those before. Past the last letter, where it is 0, stands what is no record.
-fn say_row(differ: u64, letter: u8, counts: &[u64; 64], k: u8) -> u64
+fn say_row<R: Print>(rt: &R, differ: u64, letter: u8, counts: &[u64; 64], k: u8) -> u64
     requires { k < 15 }
 {
     let row = 4 * k as usize;
     if letter == 0 {
-        say_unread(counts[row]);
+        say_unread(rt, counts[row]);
         return sum(differ, counts[row + 2]);
     }
-    say(&[letter, b' ']);
-    say_number(counts[row]);
-    say(b" records ");
-    say_number(counts[row + 1]);
-    say(b" answers ");
-    say_number(counts[row + 2]);
-    say(b" differ\n");
+    say(rt, &[letter, b' ']);
+    say_number(rt, counts[row]);
+    say(rt, b" records ");
+    say_number(rt, counts[row + 1]);
+    say(rt, b" answers ");
+    say_number(rt, counts[row + 2]);
+    say(rt, b" differ\n");
     sum(differ, counts[row + 2])
 }
 
-fn say_unread(lines: u64) {
+fn say_unread<R: Print>(rt: &R, lines: u64) {
     if lines == 0 {
         return;
     }
-    say_number(lines);
-    say(b" lines are no records\n");
+    say_number(rt, lines);
+    say(rt, b" lines are no records\n");
 }
 
-fn say_verdict(differ: u64) {
+fn say_verdict<R: Print>(rt: &R, differ: u64) {
     if differ == 0 {
-        say(b"all agree\n");
+        say(rt, b"all agree\n");
         return;
     }
-    say_number(differ);
-    say(b" differ\n");
+    say_number(rt, differ);
+    say(rt, b" differ\n");
 }

@@ -19,7 +19,7 @@ pub fn answer(t: u32, agrees: bool) -> u32
 
 // One record more, with its answers, in the row of its letter: how many records, answers and answers that differ there are, and how many
 // records with such a one, of which the first three are written. A comment is no record.
-pub fn count(counts: &mut [u64; 64], letters: &[u8], record: &[u8], t: u32)
+pub fn count<R: Print>(rt: &R, counts: &mut [u64; 64], letters: &[u8], record: &[u8], t: u32)
     ensures { counts.new ≡ after_record counts.old letters.now (byte_at «record».now 0) t }
 {
     let letter = byte_at(record, 0);
@@ -28,7 +28,7 @@ pub fn count(counts: &mut [u64; 64], letters: &[u8], record: &[u8], t: u32)
     }
     let row = row_of(letters, letter);
     let differ = t / 65536;
-    show(record, differ, counts[row + 3]);
+    show(rt, record, differ, counts[row + 3]);
     add(counts, row, 1);
     add(counts, row + 1, (t % 65536) as u64);
     add(counts, row + 2, differ as u64);
