@@ -1,5 +1,5 @@
 -- The lists and the cells that a record has, and what a lent buffer has.
-use Rattle.std.specs.Prelude.{Bool, true, false, ◌&&◌, ◌||◌, cond, List, ℕ, ◌*◌, ◌/◌, min, eqb, leb, ltb, length, get_or}
+use Rattle.std.specs.Prelude.{Bool, ◌&&◌, ◌||◌, cond, List, ℕ, ◌*◌, ◌/◌, min, eqb, leb, ltb, length, get_or}
 use Rattle.rules.specs.Tools.{all_below}
 use Rattle.records.specs.Records.{byte_at, hex_of}
 

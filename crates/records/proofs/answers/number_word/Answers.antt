@@ -1,0 +1,11 @@
+-- `records::answers::number_word` meets its contract. Assumes nothing.
+use Rattle.records.specs.Answers.{number_word}
+use Rattle.records.proofs.answers.number_word.Goals as goal
+
+pub returns-in-Is : goal.returns-in-Is
+unfolding number_word
+returns-in-Is c = rw c.in-Is.is
+
+pub returns-in-Refused : goal.returns-in-Refused
+unfolding number_word
+returns-in-Refused c = rw (c.in-Refused.is, c.refusal_word.ensures)

@@ -1,0 +1,33 @@
+-- `records::hex` meets its contract: after k turns v is what the first k digits spell. Assumes nothing.
+use mathlib.Core.Path.{◌≡◌, sym, ap, ◌∙◌}
+use Prim.Native.Nat.{min}
+use native.Mathlib.Omega.{arith}
+use Rattle.records.specs.Records.{hex_spelled, hex_of}
+use Rattle.records.proofs.Laws.{digit-below, spelled_none, spelled-more, spelled-room}
+use Rattle.records.proofs.hex.Goals as goal
+
+pub loop-k-init : goal.loop-k-init
+loop-k-init c = (omega arith, sym (spelled_none _ _))
+
+pub overflow_mul-v : goal.overflow_mul-v
+overflow_mul-v c =
+    let a = c.args in
+    omega (arith, spelled-room a.s.now a.at c.loop-k.k (omega arith))
+
+pub overflow_add-v : goal.overflow_add-v
+overflow_add-v c =
+    let a = c.args in
+    let d = c.digit.ensures in
+    omega (arith, spelled-room a.s.now a.at c.loop-k.k (omega arith), digit-below c.byte_after.result)
+
+pub loop-k-preserved : goal.loop-k-preserved
+loop-k-preserved c =
+    let a = c.args in
+    (omega arith, rw (c.loop-k.invariant.1, c.digit.ensures, c.byte_after.ensures) (spelled-more a.s.now a.at c.loop-k.k))
+
+pub returns : goal.returns
+unfolding hex_of
+returns c =
+    let a = c.args in
+    let e : c.loop-k.k ≡ min a.digits 4 = omega (arith, c.at_most_four-n.ensures) in
+    c.loop-k.invariant.1 ∙ ap (hex_spelled a.s.now a.at) e
