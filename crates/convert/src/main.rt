@@ -4,33 +4,33 @@
 
 use diagrams::convert_diagram;
 use lent::{head, keep};
-use libc::{STDERR_FILENO, STDIN_FILENO};
-use program::{is_cut_short, refuse, say, text_room, write};
+use program::{is_cut_short, read_full, refuse, say, text_room, write};
 use rules::CountAnswer;
 
-fn main() {
+fn main(rt: HostRuntime) {
     let mut text = text_room();
-    let n = io::read_full(STDIN_FILENO, &mut text);
-    if is_cut_short(n, 4097) {
-        say(b"convert: standard input cannot be read\n");
+    let n = read_full(&rt, &mut text);
+    if is_cut_short(&rt, n, 4097) {
+        say(&rt, "convert: standard input cannot be read\n");
         return;
     }
-    convert(head(&text, n));
+    convert(&rt, head(&text, n));
 }
 
 // No stones text is longer than 2,251 bytes, so 13 does not arise.
-fn convert(text: &[u8]) {
+fn convert<R: Print + Eprint>(rt: &R, text: &[u8]) {
     let mut out = [0u8; 2252];
     match convert_diagram(text, &mut out) {
         CountAnswer::Is(len) => {
             let end = keep(&mut out, len as usize, true, b"\n");
             write(
+                rt,
                 head(&out, end),
-                b"convert: standard output cannot be written\n",
+                "convert: standard output cannot be written\n",
             );
         }
         CountAnswer::Refused(number) => {
-            refuse(STDERR_FILENO, number);
+            refuse(rt, number);
         }
     }
 }

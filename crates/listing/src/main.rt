@@ -4,27 +4,27 @@
 
 use display::LengthAnswer;
 use lent::head;
-use libc::STDIN_FILENO;
-use program::{is_cut_short, say, text_room, write};
+use program::{is_cut_short, read_full, say, text_room, write};
 use report::write_listing;
 
-fn main() {
+fn main(rt: HostRuntime) {
     let mut text = text_room();
-    let n = io::read_full(STDIN_FILENO, &mut text);
-    if is_cut_short(n, 4097) {
-        say(b"listing: standard input cannot be read\n");
+    let n = read_full(&rt, &mut text);
+    if is_cut_short(&rt, n, 4097) {
+        say(&rt, "listing: standard input cannot be read\n");
         return;
     }
-    list(&text[..n]);
+    list(&rt, &text[..n]);
 }
 
-fn list(text: &[u8]) {
+fn list<R: Print + Eprint>(rt: &R, text: &[u8]) {
     let mut out = [0u8; 4096];
     match write_listing(text, &mut out) {
         LengthAnswer::Is(n) => {
             write(
+                rt,
                 head(&out, n),
-                b"listing: standard output cannot be written\n",
+                "listing: standard output cannot be written\n",
             );
         }
         // 13, which does not arise: no listing is longer than 3,840 bytes

@@ -2,31 +2,33 @@
 // name is written, and below it the listing of its text.
 #![tactic(auto)]
 
-ghost use Rattle.std.specs.Prelude.{◌<◌, length};
+ghost use Rattle.std.specs.Prelude.{◌≡◌, ◌<◌, length};
 
 use display::LengthAnswer;
 use lent::{head, tail};
-use libc::{STDIN_FILENO, STDOUT_FILENO};
-use records::{byte_at, line_at, next_line};
+use records::{byte_at, line_at, next_line, read_records, say};
 use report::write_listing;
 
-fn main() {
-    let mut cases = io::large_buffer();
-    let n = io::read_full(STDIN_FILENO, &mut cases);
-    if n == cases.len() {
-        io::write_all(STDOUT_FILENO, b"more than there is room for\n");
-        return;
-    }
-    list_cases(&cases[..n]);
+fn main(rt: HostRuntime) {
+    let mut cases = room();
+    let n = read_records(&rt, &mut cases);
+    list_cases(&rt, &cases[..n]);
 }
 
-fn list_cases(cases: &[u8]) {
+// Room for all the cases. The `ensures` gives the length, which lending the array as a slice needs.
+fn room() -> [u8; 65536]
+    ensures { 65536 ≡ length result }
+{
+    [0; 65536]
+}
+
+fn list_cases<R: Print>(rt: &R, cases: &[u8]) {
     let mut at = 0;
     while at < cases.len() {
         let end = case_end(cases, at);
-        io::write_all(STDOUT_FILENO, line_at(cases, at));
-        io::write_all(STDOUT_FILENO, b"\n");
-        list(tail(head(cases, end), next_line(cases, at)));
+        say(rt, line_at(cases, at));
+        say(rt, b"\n");
+        list(rt, tail(head(cases, end), next_line(cases, at)));
         at = end;
     }
 }
@@ -54,15 +56,15 @@ fn is_name(cases: &[u8], at: usize) -> bool {
     }
 }
 
-fn list(text: &[u8]) {
+fn list<R: Print>(rt: &R, text: &[u8]) {
     let mut out = [0u8; 4096];
     match write_listing(text, &mut out) {
         LengthAnswer::Is(n) => {
-            io::write_all(STDOUT_FILENO, head(&out, n));
+            say(rt, head(&out, n));
         }
         // 13, which does not arise: no listing is longer than 3,840 bytes
         LengthAnswer::Refused(_) => {
-            io::write_all(STDOUT_FILENO, b"too long\n");
+            say(rt, b"too long\n");
         }
     }
 }

@@ -3,33 +3,33 @@
 #![tactic(auto)]
 
 use lent::head;
-use libc::{STDIN_FILENO, STDOUT_FILENO};
 use mending::write_mended;
-use program::{is_cut_short, refuse, say, text_room, write};
+use program::{is_cut_short, read_full, refuse_on_output, say, text_room, write};
 use rules::CountAnswer;
 
-fn main() {
+fn main(rt: HostRuntime) {
     let mut text = text_room();
-    let n = io::read_full(STDIN_FILENO, &mut text);
-    if is_cut_short(n, 4097) {
-        say(b"mend: standard input cannot be read\n");
+    let n = read_full(&rt, &mut text);
+    if is_cut_short(&rt, n, 4097) {
+        say(&rt, "mend: standard input cannot be read\n");
         return;
     }
-    mend(head(&text, n));
+    mend(&rt, head(&text, n));
 }
 
 // There is room for both lines of any text, so that 13 does not arise.
-fn mend(text: &[u8]) {
+fn mend<R: Print + Eprint>(rt: &R, text: &[u8]) {
     let mut out = [0u8; 1152];
     match write_mended(text, &mut out) {
         CountAnswer::Is(n) => {
             write(
+                rt,
                 head(&out, n as usize),
-                b"mend: standard output cannot be written\n",
+                "mend: standard output cannot be written\n",
             );
         }
         CountAnswer::Refused(number) => {
-            refuse(STDOUT_FILENO, number);
+            refuse_on_output(rt, number);
         }
     }
 }

@@ -31,13 +31,13 @@ struct Tally {
     differ: u64,
 }
 
-fn main() {
+fn main(rt: HostRuntime) {
     let mut boards = room();
-    let n = read_records(&mut boards);
-    check_all(&boards[..n]);
+    let n = read_records(&rt, &mut boards);
+    check_all(&rt, &boards[..n]);
 }
 
-fn check_all(boards: &[u8]) {
+fn check_all<R: Print>(rt: &R, boards: &[u8]) {
     let mut tally = Tally {
         boards: 0,
         questions: 0,
@@ -45,24 +45,24 @@ fn check_all(boards: &[u8]) {
     };
     let mut at = 0;
     while at < boards.len() {
-        tally = check(tally, line_at(boards, at));
+        tally = check(rt, tally, line_at(boards, at));
         at = next_line(boards, at);
     }
-    say_tally(tally);
+    say_tally(rt, tally);
 }
 
 // One line more: read, asked about, named where there is something to say of it, and counted.
-fn check(before: Tally, line: &[u8]) -> Tally {
+fn check<R: Print>(rt: &R, before: Tally, line: &[u8]) -> Tally {
     let read = read_cells(line);
     let made = Board::read(read);
     let number = sum(before.boards, 1);
     if made.refused != 0 {
-        say_refused(number, made.refused);
+        say_refused(rt, number, made.refused);
         return counted(before, 0);
     }
     let cells = read.cells;
     let t = ask_all(made.board, &cells);
-    say_differs(number, t / 65536);
+    say_differs(rt, number, t / 65536);
     counted(before, t)
 }
 
@@ -86,30 +86,30 @@ fn counted(before: Tally, t: u32) -> Tally
     }
 }
 
-fn say_refused(number: u64, refused: u8) {
-    say(b"line ");
-    say_number(number);
-    say(b" refused ");
-    say_number(refused as u64);
-    say(b"\n");
+fn say_refused<R: Print>(rt: &R, number: u64, refused: u8) {
+    say(rt, b"line ");
+    say_number(rt, number);
+    say(rt, b" refused ");
+    say_number(rt, refused as u64);
+    say(rt, b"\n");
 }
 
 // Nothing, where no answer differs.
-fn say_differs(number: u64, differ: u32) {
+fn say_differs<R: Print>(rt: &R, number: u64, differ: u32) {
     if differ == 0 {
         return;
     }
-    say(b"line ");
-    say_number(number);
-    say(b" differs\n");
+    say(rt, b"line ");
+    say_number(rt, number);
+    say(rt, b" differs\n");
 }
 
-fn say_tally(tally: Tally) {
-    say(b"boards ");
-    say_number(tally.boards);
-    say(b", questions ");
-    say_number(tally.questions);
-    say(b", differ ");
-    say_number(tally.differ);
-    say(b"\n");
+fn say_tally<R: Print>(rt: &R, tally: Tally) {
+    say(rt, b"boards ");
+    say_number(rt, tally.boards);
+    say(rt, b", questions ");
+    say_number(rt, tally.questions);
+    say(rt, b", differ ");
+    say_number(rt, tally.differ);
+    say(rt, b"\n");
 }

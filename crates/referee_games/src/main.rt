@@ -32,13 +32,13 @@ pub(crate) struct Tally {
     pub(crate) refused: u64,
 }
 
-fn main() {
+fn main(rt: HostRuntime) {
     let mut games = room();
-    let n = read_records(&mut games);
-    referee_all(&games[..n]);
+    let n = read_records(&rt, &mut games);
+    referee_all(&rt, &games[..n]);
 }
 
-fn referee_all(games: &[u8]) {
+fn referee_all<R: Print>(rt: &R, games: &[u8]) {
     let mut tally = Tally {
         games: 0,
         faulty: 0,
@@ -46,42 +46,42 @@ fn referee_all(games: &[u8]) {
     };
     let mut at = 0;
     while at < games.len() {
-        tally = referee_line(tally, line_at(games, at));
+        tally = referee_line(rt, tally, line_at(games, at));
         at = next_line(games, at);
     }
-    say_tally(tally);
+    say_tally(rt, tally);
 }
 
 // One line more: read, refereed, reported and counted. A text has at most 4,097 points.
-fn referee_line(before: Tally, line: &[u8]) -> Tally {
+fn referee_line<R: Print>(rt: &R, before: Tally, line: &[u8]) -> Tally {
     let mut codes = [0u8; 4097];
     match read_points(line, &mut codes) {
-        CountAnswer::Is(n) => referee_codes(before, &codes, n),
-        CountAnswer::Refused(number) => refused(before, number),
+        CountAnswer::Is(n) => referee_codes(rt, before, &codes, n),
+        CountAnswer::Refused(number) => refused(rt, before, number),
     }
 }
 
 // The first n codes are the game. (The reference to an array gives its length, which the array itself has lost once it was lent.)
-fn referee_codes(before: Tally, codes: &[u8; 4097], n: u16) -> Tally {
+fn referee_codes<R: Print>(rt: &R, before: Tally, codes: &[u8; 4097], n: u16) -> Tally {
     let moves = head(codes, n as usize);
-    report_game(before, moves, referee_game(moves))
+    report_game(rt, before, moves, referee_game(moves))
 }
 
-fn report_game(before: Tally, moves: &[u8], report: GameReport) -> Tally {
+fn report_game<R: Print>(rt: &R, before: Tally, moves: &[u8], report: GameReport) -> Tally {
     if report.refused != 0 {
-        return refused(before, report.refused);
+        return refused(rt, before, report.refused);
     }
     if report.number == 0 {
         let winner = report.winner;
-        say_winner(winner);
+        say_winner(rt, winner);
         return counted(before, 0, 0);
     }
-    say_fault(report, byte_at(moves, (report.number - 1) as usize));
+    say_fault(rt, report, byte_at(moves, (report.number - 1) as usize));
     counted(before, 1, 0)
 }
 
-fn refused(before: Tally, number: u8) -> Tally {
-    say_refused(number);
+fn refused<R: Print>(rt: &R, before: Tally, number: u8) -> Tally {
+    say_refused(rt, number);
     counted(before, 0, 1)
 }
 

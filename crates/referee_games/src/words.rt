@@ -9,67 +9,67 @@ use referee::forbidden_strict;
 use rules::{Verdict, VerdictAnswer};
 
 // `move 9 (H8): forbidden, DoubleThree`: the point is that of the faulty move.
-pub(crate) fn say_fault(report: GameReport, code: u8) {
-    say(b"move ");
-    say_number(report.number as u64);
-    say(b" (");
-    say_label(point_label(code));
-    say(b"): ");
+pub(crate) fn say_fault<R: Print>(rt: &R, report: GameReport, code: u8) {
+    say(rt, b"move ");
+    say_number(rt, report.number as u64);
+    say(rt, b" (");
+    say_label(rt, point_label(code));
+    say(rt, b"): ");
     let reason = report.reason;
     match reason {
-        Reason::None => say(b"no fault"),
-        Reason::Occupied => say(b"occupied"),
-        Reason::Forbidden => say_kind(report.board, code),
-        Reason::AfterFive => say(b"after a five"),
+        Reason::None => say(rt, b"no fault"),
+        Reason::Occupied => say(rt, b"occupied"),
+        Reason::Forbidden => say_kind(rt, report.board, code),
+        Reason::AfterFive => say(rt, b"after a five"),
     }
-    say(b"\n");
+    say(rt, b"\n");
 }
 
-fn say_label(label: Label) {
+fn say_label<R: Print>(rt: &R, label: Label) {
     let bytes = label.bytes;
-    say(head(&bytes, label.len));
+    say(rt, head(&bytes, label.len));
 }
 
 // The kind is that of the strict verdict on the board handed back, the one before the move.
-fn say_kind(board: Board, code: u8) {
-    say(b"forbidden, ");
+fn say_kind<R: Print>(rt: &R, board: Board, code: u8) {
+    say(rt, b"forbidden, ");
     match forbidden_strict(board, code) {
-        VerdictAnswer::Is(verdict) => say_verdict(verdict),
-        VerdictAnswer::Refused(number) => say_refused(number),
+        VerdictAnswer::Is(verdict) => say_verdict(rt, verdict),
+        VerdictAnswer::Refused(number) => say_refused(rt, number),
     }
 }
 
-fn say_verdict(verdict: Verdict) {
+fn say_verdict<R: Print>(rt: &R, verdict: Verdict) {
     match verdict {
-        Verdict::None => say(b"None"),
-        Verdict::DoubleThree => say(b"DoubleThree"),
-        Verdict::DoubleFour => say(b"DoubleFour"),
-        Verdict::Overline => say(b"Overline"),
+        Verdict::None => say(rt, b"None"),
+        Verdict::DoubleThree => say(rt, b"DoubleThree"),
+        Verdict::DoubleFour => say(rt, b"DoubleFour"),
+        Verdict::Overline => say(rt, b"Overline"),
     }
 }
 
-pub(crate) fn say_winner(winner: Winner) {
-    say(b"no fault, ");
+pub(crate) fn say_winner<R: Print>(rt: &R, winner: Winner) {
+    say(rt, b"no fault, ");
     match winner {
-        Winner::None => say(b"nobody"),
-        Winner::Black => say(b"Black"),
-        Winner::White => say(b"White"),
+        Winner::None => say(rt, b"nobody"),
+        Winner::Black => say(rt, b"Black"),
+        Winner::White => say(rt, b"White"),
     }
-    say(b" has won\n");
+    say(rt, b" has won\n");
 }
 
-pub(crate) fn say_refused(number: u8) {
-    say(b"refused ");
-    say_number(number as u64);
-    say(b"\n");
+pub(crate) fn say_refused<R: Print>(rt: &R, number: u8) {
+    say(rt, b"refused ");
+    say_number(rt, number as u64);
+    say(rt, b"\n");
 }
 
-pub(crate) fn say_tally(tally: Tally) {
-    say(b"games ");
-    say_number(tally.games);
-    say(b", faulty ");
-    say_number(tally.faulty);
-    say(b", refused ");
-    say_number(tally.refused);
-    say(b"\n");
+pub(crate) fn say_tally<R: Print>(rt: &R, tally: Tally) {
+    say(rt, b"games ");
+    say_number(rt, tally.games);
+    say(rt, b", faulty ");
+    say_number(rt, tally.faulty);
+    say(rt, b", refused ");
+    say_number(rt, tally.refused);
+    say(rt, b"\n");
 }

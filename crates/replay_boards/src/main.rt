@@ -19,14 +19,14 @@ use records::{
 };
 use verdicts::replay_verdicts;
 
-fn main() {
+fn main(rt: HostRuntime) {
     let mut text = room();
-    let n = read_records(&mut text);
-    replay_all(&text[..n]);
+    let n = read_records(&rt, &mut text);
+    replay_all(&rt, &text[..n]);
 }
 
 // Each record is asked of the board whose record is the last before it.
-fn replay_all(text: &[u8]) {
+fn replay_all<R: Print>(rt: &R, text: &[u8]) {
     let mut counts = [0u64; 64];
     let mut opened = 0;
     let mut at = 0;
@@ -34,6 +34,7 @@ fn replay_all(text: &[u8]) {
         let record = line_at(text, at);
         opened = opened_at(record, at, opened);
         count(
+            rt,
             &mut counts,
             b"bsSpPfFkmroen",
             record,
@@ -41,7 +42,7 @@ fn replay_all(text: &[u8]) {
         );
         at = next_line(text, at);
     }
-    say_counts(b"bsSpPfFkmroen", &counts);
+    say_counts(rt, b"bsSpPfFkmroen", &counts);
 }
 
 // The place of a record that opens a block, else that of the one before.

@@ -13,21 +13,21 @@ use lines::{replay_eyes, replay_line, replay_number};
 use records::{answer, byte_at, count, line_at, next_line, read_records, room, say_counts};
 use segments::replay_segment;
 
-fn main() {
+fn main(rt: HostRuntime) {
     let mut text = room();
-    let n = read_records(&mut text);
-    replay_all(&text[..n]);
+    let n = read_records(&rt, &mut text);
+    replay_all(&rt, &text[..n]);
 }
 
-fn replay_all(text: &[u8]) {
+fn replay_all<R: Print>(rt: &R, text: &[u8]) {
     let mut counts = [0u64; 64];
     let mut at = 0;
     while at < text.len() {
         let record = line_at(text, at);
-        count(&mut counts, b"lcqzg", record, replay(record));
+        count(rt, &mut counts, b"lcqzg", record, replay(record));
         at = next_line(text, at);
     }
-    say_counts(b"lcqzg", &counts);
+    say_counts(rt, b"lcqzg", &counts);
 }
 
 // A record that is not as long as its letter's are is not read, and differs.

@@ -16,21 +16,21 @@ use points::{replay_list, replay_listed, replay_point};
 use reading::{replay_converted, replay_diagram, replay_text};
 use records::{answer, byte_at, count, line_at, next_line, read_records, room, say_counts};
 
-fn main() {
+fn main(rt: HostRuntime) {
     let mut text = room();
-    let n = read_records(&mut text);
-    replay_all(&text[..n]);
+    let n = read_records(&rt, &mut text);
+    replay_all(&rt, &text[..n]);
 }
 
-fn replay_all(text: &[u8]) {
+fn replay_all<R: Print>(rt: &R, text: &[u8]) {
     let mut counts = [0u64; 64];
     let mut at = 0;
     while at < text.len() {
         let record = line_at(text, at);
-        count(&mut counts, b"tTcMCdDypLPiIg", record, replay(record));
+        count(rt, &mut counts, b"tTcMCdDypLPiIg", record, replay(record));
         at = next_line(text, at);
     }
-    say_counts(b"tTcMCdDypLPiIg", &counts);
+    say_counts(rt, b"tTcMCdDypLPiIg", &counts);
 }
 
 // A record that is not well formed is not asked about, and differs.

@@ -5,94 +5,92 @@
 
 use display::{LengthAnswer, write_points};
 use lent::head;
-use libc::{STDERR_FILENO, STDIN_FILENO, STDOUT_FILENO};
-use program::{is_cut_short, is_word, refuse, say, text_room};
+use program::{is_cut_short, is_word, read_full, refuse, say, text_room, word_count};
 use rules::CountAnswer;
 use sgf::{from_sgf, to_sgf};
 use text::read_points;
 
-fn main() {
-    // the program's own name is counted too
-    let words = os::arg_count();
+fn main(rt: HostRuntime) {
+    let words = word_count(&rt);
     if words < 2 {
-        convert(false);
+        convert(&rt, false);
         return;
     }
-    if words == 2 && is_word(1, b"--back") {
-        convert(true);
+    if words == 2 && is_word(&rt, 1, b"--back") {
+        convert(&rt, true);
         return;
     }
-    say(b"usage: sgf_games [--back]\n");
+    say(&rt, "usage: sgf_games [--back]\n");
 }
 
-fn convert(back: bool) {
+fn convert<R: Input + Print + Eprint>(rt: &R, back: bool) {
     let mut bytes = text_room();
-    let n = io::read_full(STDIN_FILENO, &mut bytes);
-    if is_cut_short(n, 4097) {
-        say(b"sgf: standard input cannot be read\n");
+    let n = read_full(rt, &mut bytes);
+    if is_cut_short(rt, n, 4097) {
+        say(rt, "sgf: standard input cannot be read\n");
         return;
     }
     if back {
-        give_moves(head(&bytes, n));
+        give_moves(rt, head(&bytes, n));
         return;
     }
-    give_sgf(head(&bytes, n));
+    give_sgf(rt, head(&bytes, n));
 }
 
 // Moves text as SGF.
-fn give_sgf(text: &[u8]) {
+fn give_sgf<R: Print + Eprint>(rt: &R, text: &[u8]) {
     let mut codes = text_room();
     match read_points(text, &mut codes) {
         CountAnswer::Is(count) => {
-            give_text(head(&codes, count as usize));
+            give_text(rt, head(&codes, count as usize));
         }
         CountAnswer::Refused(number) => {
-            refuse(STDERR_FILENO, number);
+            refuse(rt, number);
         }
     }
 }
 
-fn give_text(moves: &[u8]) {
+fn give_text<R: Print + Eprint>(rt: &R, moves: &[u8]) {
     let mut out = [0u8; 1364];
     match to_sgf(moves, &mut out) {
         CountAnswer::Is(len) => {
-            write_line(head(&out, len as usize));
+            write_line(rt, head(&out, len as usize));
         }
         CountAnswer::Refused(number) => {
-            refuse(STDERR_FILENO, number);
+            refuse(rt, number);
         }
     }
 }
 
 // SGF as moves text. A game without moves is an empty line.
-fn give_moves(text: &[u8]) {
+fn give_moves<R: Print + Eprint>(rt: &R, text: &[u8]) {
     let mut codes = [0u8; 225];
     match from_sgf(text, &mut codes) {
         CountAnswer::Is(count) => {
-            give_points(head(&codes, count as usize));
+            give_points(rt, head(&codes, count as usize));
         }
         CountAnswer::Refused(number) => {
-            refuse(STDERR_FILENO, number);
+            refuse(rt, number);
         }
     }
 }
 
 // A point has three bytes at most, and a comma behind it.
-fn give_points(codes: &[u8]) {
+fn give_points<R: Print + Eprint>(rt: &R, codes: &[u8]) {
     let mut out = [0u8; 900];
     match write_points(codes, &mut out) {
         LengthAnswer::Is(len) => {
-            write_line(head(&out, len));
+            write_line(rt, head(&out, len));
         }
         LengthAnswer::Refused(number) => {
-            refuse(STDERR_FILENO, number);
+            refuse(rt, number);
         }
     }
 }
 
-fn write_line(bytes: &[u8]) {
-    if io::write_all(STDOUT_FILENO, bytes) && io::write_all(STDOUT_FILENO, b"\n") {
+fn write_line<R: Print + Eprint>(rt: &R, bytes: &[u8]) {
+    if rt.write_all(bytes).is_ok() && rt.write_all(b"\n").is_ok() {
         return;
     }
-    say(b"sgf: standard output cannot be written\n");
+    say(rt, "sgf: standard output cannot be written\n");
 }

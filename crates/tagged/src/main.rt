@@ -5,23 +5,21 @@
 ghost use Rattle.std.specs.Prelude.{◌≡◌, length};
 
 use lent::head;
-use libc::{STDERR_FILENO, STDIN_FILENO};
-use program::{is_cut_short, is_word, refuse, say, write};
+use program::{is_cut_short, is_word, read_full, refuse, say, word_count, write};
 use rules::CountAnswer;
 use stored::{from_tagged, old_to_tagged};
 
-fn main() {
-    // the program's own name is counted too
-    let words = os::arg_count();
+fn main(rt: HostRuntime) {
+    let words = word_count(&rt);
     if words < 2 {
-        convert(false);
+        convert(&rt, false);
         return;
     }
-    if words == 2 && is_word(1, b"--back") {
-        convert(true);
+    if words == 2 && is_word(&rt, 1, b"--back") {
+        convert(&rt, true);
         return;
     }
-    say(b"usage: tagged [--back]\n");
+    say(&rt, "usage: tagged [--back]\n");
 }
 
 // A byte more than the longest record can have whose length agrees, 7 and 65,535: what is longer is refused by its length alone, whatever
@@ -32,23 +30,24 @@ fn room() -> [u8; 65543]
     [0; 65543]
 }
 
-fn convert(back: bool) {
+fn convert<R: Input + Print + Eprint>(rt: &R, back: bool) {
     let mut bytes = room();
-    let n = io::read_full(STDIN_FILENO, &mut bytes);
-    if is_cut_short(n, 65543) {
-        say(b"tagged: standard input cannot be read\n");
+    let n = read_full(rt, &mut bytes);
+    if is_cut_short(rt, n, 65543) {
+        say(rt, "tagged: standard input cannot be read\n");
         return;
     }
     let mut out = [0u8; 232];
     match converted(back, head(&bytes, n), &mut out) {
         CountAnswer::Is(len) => {
             write(
+                rt,
                 head(&out, len as usize),
-                b"tagged: standard output cannot be written\n",
+                "tagged: standard output cannot be written\n",
             );
         }
         CountAnswer::Refused(number) => {
-            refuse(STDERR_FILENO, number);
+            refuse(rt, number);
         }
     }
 }
