@@ -1,4 +1,3 @@
-
 use Rattle.std.proofs.Common.{arith}
 use Rattle.records.proofs.Laws.{next-less}
 use Rattle.night.proofs.check_all.Goals as goal

@@ -1,4 +1,3 @@
-
 use Rattle.std.proofs.Common.{length, ◌-◌}
 use Rattle.night.proofs.check_all.Given as goal
 
