@@ -31,7 +31,7 @@ use Rattle.grid.proofs.Lines.{length-cells_of, cell-on, cells-lines_of, sound-li
 use Rattle.grid.proofs.Same.{test-sound, sound-test}
 use Rattle.grid.proofs.Agreed.{sound-agreed, agreed-sound}
 use Rattle.board.specs.Boards.{board_with, cells, board_of, stones_shown, board_from, moved_count, changed_board, counts_refusal, board_refusal}
-use Rattle.board.specs.Boards.{AgreedBoard, RefusedUnlessAgreed, refusal_at, refusal_for, rows_on_refusal}
+use Rattle.board.specs.Boards.{RefusedUnlessAgreed, refusal_at, refusal_for, rows_on_refusal}
 use Rattle.board.specs.Answers.{answer_with, board_answer, starts_answer}
 use Rattle.board.specs.declared.board.Board.{Board}
 use Rattle.board.specs.declared.answer.BoardAnswer.{BoardAnswer}

@@ -11,7 +11,6 @@ use Rattle.rules.specs.Views.{turn_cells}
 use Rattle.rules.specs.declared.Player.TheVariants.{Black, White}
 use Rattle.lent.specs.Lists.{zeros}
 use Rattle.cells.specs.Cells.{Cells}
-use Rattle.cells.specs.Counts.{stones_count}
 use Rattle.cells.proofs.Given.{cells-zeros}
 use Rattle.cells.proofs.Counts.{stones-turned, counts_all}
 use Rattle.grid.proofs.Lines.{length-cells_of}

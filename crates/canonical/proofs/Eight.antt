@@ -9,7 +9,6 @@ use native.Mathlib.Omega.{arith}
 use native.Mathlib.Numerals.{add-one}
 use native.Mathlib.Decide.{ℕ_discrete}
 use lib.ListN.{length}
-use Rattle.rules.specs.Tools.{all_below}
 use Rattle.rules.specs.Grid.{first_of}
 use Rattle.rules.specs.Views.{turn_cells, undo, then_view}
 use Rattle.rules.proofs.Logic.{T_true, true-T, no_true, false-not, not-false, not-not, decide, all-intro, all-fails}

@@ -11,7 +11,7 @@ use Rattle.rules.specs.Numbers.{opponent_of}
 use Rattle.rules.specs.Grid.{put, play}
 use Rattle.rules.specs.Fives.{makes_five}
 use Rattle.rules.specs.declared.Player.{Player}
-use Rattle.rules.specs.declared.Player.TheVariants.{Black, White}
+use Rattle.rules.specs.declared.Player.TheVariants.{Black}
 use Rattle.rules.proofs.Logic.{decide}
 use Rattle.lent.specs.Lists.{zeros}
 use Rattle.cells.specs.Cells.{puts, moves_cells}

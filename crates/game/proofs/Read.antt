@@ -34,7 +34,7 @@ use Rattle.near.specs.Rows.{seen, may_apply}
 use Rattle.cells.specs.Cells.{Cells, cells_refusal, cells_refusal_at}
 use Rattle.cells.proofs.Given.{colour-small, cells-pass}
 use Rattle.grid.specs.Lines.{cells_of, lines_of, Sound, add_on, masks_by}
-use Rattle.grid.proofs.Lines.{cells-cells_of, length-cells_of, empty-cell, cells-write, sound-write, sound-lines}
+use Rattle.grid.proofs.Lines.{cells-cells_of, empty-cell, cells-write, sound-write, sound-lines}
 use Rattle.grid.proofs.Marked.{add-write}
 use Rattle.grid.proofs.Placed.{masks-by}
 use Rattle.referee.specs.Referee.{MasksOf}
@@ -47,7 +47,6 @@ use Rattle.game.specs.declared.report.Reason.{Reason}
 use Rattle.game.specs.declared.report.Reason.TheVariants as reason
 use Rattle.game.specs.declared.report.Winner.{Winner}
 use Rattle.game.specs.declared.report.Winner.TheVariants as winner
-use Rattle.game.specs.declared.report.GameReport.{GameReport}
 
 -- ---- the reason, by the three tests
 

@@ -1,6 +1,6 @@
 -- THE EIGHT VIEWS of a game: the report of the turned moves is the same report with the board turned. Assumes nothing.
 use mathlib.Core.Path.{◌≡◌, refl, sym, ap, ap₂, ◌∙◌}
-use mathlib.Core.Bool.{Bool, true, false, cond}
+use mathlib.Core.Bool.{Bool, true, false}
 use mathlib.Core.Logic.{◌⊎◌, inl, inr}
 use mathlib.Core.List.{List, [], ◌∷◌}
 use Prim.Native.Nat.{ℕ, zero, suc, ◌<◌}
@@ -8,11 +8,10 @@ use native.Mathlib.Omega.{arith}
 use lib.Dec.{leb, ltb, le→leb}
 use lib.ListN.{length, get_or, length-set}
 use borrow.Author.Tests.{lt-ltb}
-use Rattle.rules.specs.Numbers.{colour_no, is_none, opponent_of}
+use Rattle.rules.specs.Numbers.{colour_no, opponent_of}
 use Rattle.rules.specs.Refusals.{many_moves, unless}
 use Rattle.rules.specs.Tools.{all_below}
-use Rattle.rules.specs.Grid.{is_empty, put}
-use Rattle.rules.specs.Forbidden.{strict_of}
+use Rattle.rules.specs.Grid.{put}
 use Rattle.rules.specs.Fives.{makes_five}
 use Rattle.rules.specs.Views.{turn, turn_cells}
 use Rattle.rules.specs.declared.Player.{Player}
@@ -20,7 +19,7 @@ use Rattle.rules.specs.declared.Player.TheVariants.{Black}
 use Rattle.rules.proofs.Logic.{decide, true-T, all-intro}
 use Rattle.rules.proofs.Refusals.{none_first, pass}
 use Rattle.rules.proofs.Turns.{turn-lt}
-use Rattle.rules.proofs.Eight.{Turned, turned-put}
+use Rattle.rules.proofs.Eight.{turned-put}
 use Rattle.rules.proofs.Views.{turned-cells, turned-one, strict-view}
 use Rattle.rules.proofs.Fives.{five-view}
 use Rattle.lent.specs.Lists.{zeros}

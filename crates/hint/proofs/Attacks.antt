@@ -1,7 +1,7 @@
 -- What an attack does, told by what the code sees of it. Assumes nothing.
-use mathlib.Core.Path.{◌≡◌, refl, ap, sym, subst, ◌∙◌}
+use mathlib.Core.Path.{◌≡◌, refl, sym, subst, ◌∙◌}
 use mathlib.Core.Logic.{◌⊎◌, inl, inr}
-use mathlib.Core.Bool.{Bool, true, false, not, ◌&&◌, ◌||◌, cond, and-false}
+use mathlib.Core.Bool.{Bool, true, false, not, ◌&&◌, ◌||◌, and-false}
 use mathlib.Core.List.{List, [], ◌∷◌}
 use Prim.Native.Nat.{ℕ, ◌<◌}
 use lib.Dec.{T, eqb, ltb, eqb_refl, eqb→eq}
@@ -13,15 +13,15 @@ use Rattle.rules.specs.Forbidden.{some_row, strict_of}
 use Rattle.rules.specs.declared.Player.{Player}
 use Rattle.rules.specs.declared.Player.TheVariants.{Black, White}
 use Rattle.rules.specs.declared.RowKind.TheVariants.{Sword, Four}
-use Rattle.rules.proofs.Logic.{T_true, true-T, along, no_true, decide, and_left, and_right, and_intro, or_left, or_right, or_cases}
+use Rattle.rules.proofs.Logic.{T_true, true-T, along, no_true, decide, and_right, and_intro, or_left, or_right}
 use Rattle.rules.proofs.Logic.{false-not, not-false}
-use Rattle.rules.proofs.Logic.{any-intro, any-elim, not-elim}
+use Rattle.rules.proofs.Logic.{any-intro, any-elim}
 use Rattle.rules.proofs.More.{some_row-elim}
 use Rattle.hint.specs.Hint.{legal, completes, may_attack, is_four_eye, eyes_from, ends_by, ends_at, only_eye, forces, after_both, reaches_end}
 use Rattle.hint.specs.Seen.{is_several, EyesAre, Quiet, Forced, AttackIs, AnswerIs}
 use Rattle.hint.specs.declared.attack.Attack.{Attack}
 use Rattle.hint.specs.declared.attack.Attack.TheVariants as attack
-use Rattle.hint.proofs.Stone.{completes-told, completes-empty, eye-elim, eye-empty, eye-completes}
+use Rattle.hint.proofs.Stone.{completes-told, eye-elim, eye-empty, eye-completes}
 use Rattle.hint.proofs.Winning.{legal-intro, completes-legal}
 use Rattle.hint.proofs.Swords.{eye-sword, end-shape, forces-shape}
 use Rattle.hint.proofs.Quiet.{quiet_next}

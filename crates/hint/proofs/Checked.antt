@@ -7,7 +7,7 @@ use Prim.Native.Nat.{ℕ, ◌+◌, ◌-◌, ◌≤◌, ◌<◌}
 use native.Mathlib.Numerals.{add-one}
 use native.Mathlib.Omega.{arith}
 use native.Mathlib.Decide.{ℕ_discrete}
-use lib.Dec.{T, eqb, ltb, eqb→eq}
+use lib.Dec.{T, eqb, eqb→eq}
 use lib.ListN.{length, get_or, drop, length-drop, length-set}
 use lib.Seq.{drop-cons}
 use borrow.Author.Tests.{eq-eqb, ne_eqb, le-ltb}
@@ -15,7 +15,7 @@ use Rattle.rules.specs.Numbers.{colour_no, opponent_of}
 use Rattle.rules.specs.Tools.{any_below}
 use Rattle.rules.specs.Grid.{is_empty, put}
 use Rattle.rules.specs.declared.Player.{Player}
-use Rattle.rules.proofs.Logic.{T_true, true-T, along, no_true, decide, and_left, and_right, not-false}
+use Rattle.rules.proofs.Logic.{T_true, true-T, no_true, decide, and_left, and_right, not-false}
 use Rattle.point.specs.Places.{addresses}
 use Rattle.grid.specs.Lines.{cells_of, Sound, mark_by}
 use Rattle.grid.proofs.Lines.{length-cells_of}

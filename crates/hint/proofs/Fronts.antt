@@ -1,18 +1,18 @@
 -- The fronts: what is refused, and what the lines of cells show. Assumes nothing.
-use mathlib.Core.Path.{◌≡◌, refl, ap, sym, subst, ◌∙◌}
+use mathlib.Core.Path.{◌≡◌, refl, ap, sym, ◌∙◌}
 use mathlib.Core.Logic.{◌⊎◌, inl, inr}
-use mathlib.Core.Bool.{Bool, true, false, not, ◌&&◌, cond}
+use mathlib.Core.Bool.{Bool, true, false, ◌&&◌, cond}
 use mathlib.Core.List.{List, [], ◌∷◌}
-use Prim.Native.Nat.{ℕ, zero, suc, ◌+◌, ◌≤◌, ◌<◌}
+use Prim.Native.Nat.{ℕ, ◌+◌, ◌≤◌}
 use native.Mathlib.Omega.{arith}
-use lib.Dec.{T, eqb, leb}
+use lib.Dec.{leb}
 use lib.ListN.{length}
 use lib.Seq.{sets}
 use borrow.Author.Tests.{leb-true, le-leb}
-use Rattle.rules.specs.Refusals.{no_room, no_limit, unless, first, colour_refusal}
-use Rattle.rules.proofs.Logic.{decide, no_true}
+use Rattle.rules.specs.Refusals.{no_room, unless, first, colour_refusal}
+use Rattle.rules.proofs.Logic.{decide}
 use Rattle.rules.proofs.Refusals.{first-none}
-use Rattle.lent.specs.Lists.{zeros, Wrote, Held}
+use Rattle.lent.specs.Lists.{zeros, Held}
 use Rattle.lent.proofs.Laws.{wrote-held}
 use Rattle.cells.specs.Cells.{Cells, cells_refusal, codes_refusal}
 use Rattle.cells.proofs.Given.{cells_in}

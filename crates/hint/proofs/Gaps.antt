@@ -1,8 +1,8 @@
 -- The eyes of the Fours that an attack makes: each is the gap that is left of a Sword through its point, and each such gap is one. Assumes
 -- nothing.
 use mathlib.Core.Path.{◌≡◌, refl, sym, subst, ap, ap₂, ◌∙◌}
-use mathlib.Core.Bool.{Bool, true, false, not, ◌&&◌, cond}
-use mathlib.Core.List.{List, [], ◌∷◌}
+use mathlib.Core.Bool.{Bool, true, false, not, ◌&&◌}
+use mathlib.Core.List.{List}
 use Prim.Native.Nat.{ℕ, ◌+◌, ◌-◌, ◌*◌, ◌/◌, ◌%◌, ◌≤◌, ◌<◌}
 use native.Mathlib.Nat.{add-zero}
 use native.Mathlib.Omega.{arith}
@@ -10,16 +10,15 @@ use native.Mathlib.Decide.{ℕ_discrete, dec_lt}
 use lib.Dec.{T, eqb, ltb, lit<, eqb→eq}
 use lib.ListN.{length, get_or, length-set}
 use Rattle.rules.specs.Numbers.{colour_no, is_black, opponent_of}
-use Rattle.rules.specs.Bit.{digit}
 use Rattle.rules.specs.Line.{Stones, count, among, no_stone, empty_at, is_eye, eye_of_some}
-use Rattle.rules.specs.Point.{line_no, cell_no, line_count, line_size, point_at}
+use Rattle.rules.specs.Point.{line_no, cell_no, line_size, point_at}
 use Rattle.rules.specs.Grid.{is_empty, put, stone_at, row_on, start_masks, starts_of, numbered, next_from, rows_through, four_eye}
 use Rattle.rules.specs.Forbidden.{some_row}
 use Rattle.rules.specs.declared.Player.{Player}
 use Rattle.rules.specs.declared.RowKind.TheVariants.{Sword, Four}
-use Rattle.rules.proofs.Logic.{T_true, true-T, along, no_true, not-false, false-not, and_left, and_right, any-elim}
+use Rattle.rules.proofs.Logic.{T_true, along, no_true, not-false, false-not, and_left, and_right, any-elim}
 use Rattle.rules.proofs.Address.{line-here, point-here, point-lt, line-there, cell-there}
-use Rattle.rules.proofs.Rows.{stone-here, row_on-inside, start-lt}
+use Rattle.rules.proofs.Rows.{stone-here, row_on-inside}
 use Rattle.rules.proofs.Starts.{starts-named, start-low}
 use Rattle.rules.proofs.Numbered.{next_le, next-ge, next-on, next-none, next-first, in-line, in_cell}
 use Rattle.rules.proofs.More.{some_row-elim}

@@ -2,7 +2,7 @@
 use mathlib.Core.Path.{◌≡◌, refl, ap, ap₂, sym, subst, subst₂, ◌∙◌}
 use mathlib.Core.Bool.{Bool, true, false, not, ◌&&◌}
 use mathlib.Core.List.{List}
-use Prim.Native.Nat.{ℕ, ◌+◌, ◌≤◌, ◌<◌}
+use Prim.Native.Nat.{ℕ, ◌+◌, ◌<◌}
 use native.Mathlib.Numerals.{add-one}
 use native.Mathlib.Omega.{arith}
 use lib.Dec.{T, eqb, leb, le→leb}
@@ -13,12 +13,12 @@ use Rattle.rules.specs.Tools.{any_below}
 use Rattle.rules.specs.Bit.{bit, mask_of}
 use Rattle.rules.specs.Line.{Stones, among, row_at}
 use Rattle.rules.specs.Point.{line_no, cell_no, line_count, line_size, point_at, stored, key_of, key_dir, key_no, key_size}
-use Rattle.rules.specs.Grid.{is_empty, stone_at, row_on, rows_through}
+use Rattle.rules.specs.Grid.{stone_at, row_on, rows_through}
 use Rattle.rules.specs.declared.Player.{Player}
 use Rattle.rules.specs.declared.Player.TheVariants.{Black, White}
 use Rattle.rules.specs.declared.RowKind.{RowKind}
 use Rattle.rules.specs.declared.RowKind.TheVariants.{Four, Five}
-use Rattle.rules.proofs.Logic.{T_true, true-T, along, not-false, and_right, and_intro, both_ways, any-elim, any-intro}
+use Rattle.rules.proofs.Logic.{T_true, true-T, along, not-false, and_intro, both_ways, any-elim, any-intro}
 use Rattle.rules.proofs.Bits.{mask-any}
 use Rattle.rules.proofs.Address.{size-le, stored-long, key-lt, key-dir, key-no, key_dir-lt, key_no-lt, line-here, point-lt, line-there, cell-there}
 use Rattle.rules.proofs.Rows.{row_on-inside, stone-here, through-row}
@@ -27,9 +27,9 @@ use Rattle.grid.specs.Lines.{mask_on, cells_of, Sound}
 use Rattle.grid.proofs.Lines.{shows-sound}
 use Rattle.hint.specs.Hint.{has_five, goes_on, completes}
 use Rattle.hint.specs.Seen.{row_on_key}
-use Rattle.hint.proofs.OneLine.{Scored, scores-says}
-use Rattle.hint.proofs.Stone.{five-elim, five-intro, Completes, completes-elim, completes-intro, four-scores, none-empty, in_window}
-use Rattle.hint.proofs.Gaps.{Gap, gap-five}
+use Rattle.hint.proofs.OneLine.{scores-says}
+use Rattle.hint.proofs.Stone.{five-elim, five-intro, completes-elim, completes-intro, four-scores, none-empty, in_window}
+use Rattle.hint.proofs.Gaps.{gap-five}
 
 -- ---- a search for a number that passes
 

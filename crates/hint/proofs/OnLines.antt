@@ -6,7 +6,7 @@ use mathlib.Core.List.{List}
 use Prim.Native.Nat.{ℕ, ◌≤◌, ◌<◌}
 use native.Mathlib.Omega.{arith}
 use lib.Dec.{T, eqb}
-use lib.ListN.{length, get_or}
+use lib.ListN.{get_or}
 use borrow.Author.Tests.{eqb-true, ne_eqb}
 use Rattle.rules.specs.Numbers.{colour_no}
 use Rattle.rules.specs.Bit.{bit, mask_of}
@@ -17,7 +17,7 @@ use Rattle.rules.specs.Forbidden.{some_row}
 use Rattle.rules.specs.declared.Player.{Player}
 use Rattle.rules.specs.declared.Player.TheVariants.{Black, White}
 use Rattle.rules.specs.declared.RowKind.{RowKind}
-use Rattle.rules.specs.declared.RowKind.TheVariants.{Sword, Four}
+use Rattle.rules.specs.declared.RowKind.TheVariants.{Sword}
 use Rattle.rules.proofs.Logic.{true-T, T_true, decide}
 use Rattle.rules.proofs.Bits.{mask-cong}
 use Rattle.rules.proofs.Address.{line-here}
@@ -27,7 +27,7 @@ use Rattle.masks.specs.Masks.{placed}
 use Rattle.point.specs.declared.place.Place.{Place}
 use Rattle.point.specs.Places.{has_place, place_of, addresses}
 use Rattle.cells.proofs.Given.{colour-small}
-use Rattle.grid.specs.Lines.{cell_of, cells_of, Sound, mask_on, write_on, add_on, lift_on, mark_by}
+use Rattle.grid.specs.Lines.{cell_of, cells_of, Sound, mask_on, write_on, lift_on, mark_by}
 use Rattle.grid.proofs.Lines.{line_at, mask-sound, stone-bits, length-cells_of, cell-on, empty-cell, cells-write, sound-write}
 use Rattle.grid.proofs.Marked.{add-write, trial-marked}
 use Rattle.grid.proofs.Placed.{mark-by}

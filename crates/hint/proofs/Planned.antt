@@ -1,7 +1,7 @@
 -- The planner: what it gives is acceptable, is the first by codes, and is nothing only where there is nothing. Assumes nothing.
 use mathlib.Core.Path.{◌≡◌, refl, sym, subst, ap, ◌∙◌}
 use mathlib.Core.Logic.{◌⊎◌, inl, inr, ◌↔◌}
-use mathlib.Core.Bool.{Bool, true, false, not, ◌&&◌, ◌||◌, cond}
+use mathlib.Core.Bool.{Bool, true, false, not, ◌&&◌, cond}
 use mathlib.Core.List.{List, [], ◌∷◌}
 use Prim.Native.Nat.{ℕ, zero, suc, ◌+◌, ◌*◌, ◌≤◌, ◌<◌}
 use native.Mathlib.Nat.{not-suc-le-zero, le_of_suc-le-suc, eq-or-lt_of_le}
@@ -10,7 +10,7 @@ use lib.Dec.{T, eqb, eqb→eq, eqb_refl}
 use lib.ListN.{length}
 use Rattle.rules.specs.Grid.{put}
 use Rattle.rules.specs.declared.Player.{Player}
-use Rattle.rules.proofs.Logic.{decide, T_true, true-T, along, not-false, false-not, and_left, and_right, and_intro}
+use Rattle.rules.proofs.Logic.{decide, T_true, true-T, not-false, false-not, and_left, and_right, and_intro}
 use Rattle.hint.proofs.Picked.{Picked, eyes-picked}
 use Rattle.hint.specs.Hint.{Wins, goes_on, may_attack, is_four_eye, eyes_from, ends_at, only_eye, forces, after_both, reaches_end, acceptable, attacks}
 use Rattle.hint.specs.Planner.{or_else, first_line, behind, via_eye, line_from, plan_from, plan_of, NotAfter}

@@ -4,7 +4,6 @@ use mathlib.Core.Path.{◌≡◌, refl, sym, subst, subst₂, ap, ◌∙◌, fun
 use mathlib.Core.Bool.{Bool, true, false, not, ◌&&◌}
 use mathlib.Core.List.{List}
 use Prim.Native.Nat.{ℕ, ◌+◌, ◌<◌}
-use native.Mathlib.Omega.{arith}
 use native.Mathlib.Decide.{ℕ_discrete}
 use lib.Dec.{T, eqb, ltb, lt→ltb}
 use lib.ListN.{length, get_or, length-set}
@@ -16,7 +15,7 @@ use Rattle.rules.specs.Point.{line_no, cell_no, line_count, line_size}
 use Rattle.rules.specs.Grid.{is_empty, put, stone_at, row_on, rows_through, four_eye}
 use Rattle.rules.specs.declared.Player.{Player}
 use Rattle.rules.specs.declared.RowKind.TheVariants.{Four}
-use Rattle.rules.proofs.Logic.{true-T, T_true, along, not-false, false-not, not-intro, and_left, and_right, and_intro, both_ways, any-elim}
+use Rattle.rules.proofs.Logic.{true-T, along, false-not, and_left, and_right, and_intro, both_ways, any-elim}
 use Rattle.rules.proofs.Logic.{any-intro}
 use Rattle.rules.proofs.Address.{line-here, cell-here}
 use Rattle.rules.proofs.Rows.{stone-here, start-lt}

@@ -2,18 +2,17 @@
 use mathlib.Core.Path.{◌≡◌, refl, ap, sym, subst, ◌∙◌}
 use mathlib.Core.Logic.{◌⊎◌, inl, inr}
 use mathlib.Core.Bool.{Bool, true, false, not, ◌&&◌}
-use mathlib.Core.List.{List, [], ◌∷◌, ◌++◌}
+use mathlib.Core.List.{List, [], ◌∷◌}
 use Prim.Native.Nat.{ℕ, zero, suc, ◌+◌, ◌-◌, ◌*◌, ◌≤◌, ◌<◌}
 use native.Mathlib.Nat.{not-suc-le-zero, le_of_suc-le-suc, eq-or-lt_of_le}
 use native.Mathlib.Numerals.{add-one, add-two}
 use native.Mathlib.Omega.{arith}
-use lib.Dec.{T}
 use lib.ListN.{length, set}
 use lib.Seq.{sets, set_comm}
 use Rattle.rules.specs.Numbers.{opponent_of}
 use Rattle.rules.specs.Tools.{any_below}
 use Rattle.rules.specs.declared.Player.{Player}
-use Rattle.rules.proofs.Logic.{T_true, true-T, along, decide, no_true}
+use Rattle.rules.proofs.Logic.{along, decide, no_true}
 use Rattle.hint.specs.Hint.{goes_on, completes, reaches_end, after_both}
 use Rattle.hint.specs.Planner.{or_else, first_line, behind, line_from, plan_from, plan_of}
 use Rattle.hint.specs.Seen.{Forced, AttackIs}

@@ -3,16 +3,16 @@ use mathlib.Core.Path.{◌≡◌, refl, sym, subst, subst₂, ap, ◌∙◌, fun
 use mathlib.Core.Logic.{◌⊎◌, inl, inr}
 use mathlib.Core.Bool.{Bool, true, false, not, ◌&&◌, cond}
 use mathlib.Core.List.{List}
-use Prim.Native.Nat.{ℕ, zero, suc, ◌+◌, ◌-◌, ◌≤◌, ◌<◌}
+use Prim.Native.Nat.{ℕ, ◌+◌, ◌-◌, ◌≤◌, ◌<◌}
 use native.Mathlib.Omega.{arith}
-use native.Mathlib.Decide.{ℕ_discrete, dec_le, dec_lt}
+use native.Mathlib.Decide.{ℕ_discrete}
 use lib.Dec.{T, eqb, leb, ltb, eqb→eq, leb→le, ltb→lt, le→leb, lt→ltb}
-use lib.ListN.{length, get_or, set, length-set}
+use lib.ListN.{length, get_or, length-set}
 use lib.Seq.{get_or-set_same, get_or-set_other}
 use borrow.Author.Tests.{eq-eqb, ne_eqb}
 use Rattle.rules.specs.Numbers.{colour_no, is_black, opponent_of}
 use Rattle.rules.specs.Tools.{any_below}
-use Rattle.rules.specs.Line.{Stones, scores, among, row_at, no_stone, empty_at, is_eye, eye_of_some, count}
+use Rattle.rules.specs.Line.{Stones, scores, among, row_at, no_stone, empty_at, is_eye, eye_of_some}
 use Rattle.rules.specs.Point.{line_no, cell_no, line_count, line_size, point_at}
 use Rattle.rules.specs.Grid.{is_empty, put, stone_at, row_on, rows_through, four_eye}
 use Rattle.rules.specs.Forbidden.{some_row}
@@ -21,8 +21,8 @@ use Rattle.rules.specs.declared.Player.{Player}
 use Rattle.rules.specs.declared.Player.TheVariants.{Black, White}
 use Rattle.rules.specs.declared.RowKind.TheVariants.{Four, Five}
 use Rattle.rules.proofs.Logic.{true-T, along, not-false, false-not, and_left, and_right, and_intro, and_same, any-elim, any-intro}
-use Rattle.rules.proofs.Address.{line-here, cell-here, point-here, line-there, cell-there, size-le}
-use Rattle.rules.proofs.Rows.{stone-here, stone-in, row_on-inside}
+use Rattle.rules.proofs.Address.{line-here, point-here, size-le}
+use Rattle.rules.proofs.Rows.{stone-here, row_on-inside}
 use Rattle.rules.proofs.Changes.{stone-on, stone-off}
 use Rattle.rules.proofs.More.{some_row-elim, some_row-intro, some_row-same}
 use Rattle.rules.proofs.Windows.{free-at}

@@ -1,9 +1,9 @@
 -- An accepted line wins against every reply. Assumes nothing.
 use mathlib.Core.Path.{◌≡◌, refl, sym, subst, ap, ◌∙◌}
 use mathlib.Core.Logic.{◌⊎◌, inl, inr}
-use mathlib.Core.Bool.{Bool, true, false, not, ◌&&◌, ◌||◌, cond}
+use mathlib.Core.Bool.{Bool, true, false, not, ◌&&◌, ◌||◌}
 use mathlib.Core.List.{List, [], ◌∷◌}
-use Prim.Native.Nat.{ℕ, zero, suc, ◌+◌, ◌<◌}
+use Prim.Native.Nat.{ℕ, suc, ◌+◌, ◌<◌}
 use native.Mathlib.Numerals.{add-one}
 use native.Mathlib.Decide.{ℕ_discrete}
 use lib.Dec.{T, eqb, ltb, eqb→eq, ltb→lt, lt→ltb}
@@ -11,13 +11,13 @@ use lib.ListN.{length, get_or, length-set}
 use Rattle.rules.specs.Numbers.{colour_no, is_none, is_white, opponent_of}
 use Rattle.rules.specs.Tools.{any_below}
 use Rattle.rules.specs.Grid.{is_empty, put, rows_through}
-use Rattle.rules.specs.Forbidden.{some_row, completes_five, strict_of, plain_of}
+use Rattle.rules.specs.Forbidden.{completes_five, strict_of}
 use Rattle.rules.specs.declared.Player.{Player}
 use Rattle.rules.specs.declared.Player.TheVariants.{Black, White}
 use Rattle.rules.specs.declared.RowKind.TheVariants.{Four}
 use Rattle.rules.specs.declared.Verdict.{Verdict}
 use Rattle.rules.specs.declared.Verdict.TheVariants.{None}
-use Rattle.rules.proofs.Logic.{T_true, true-T, along, not-false, and_left, and_right, and_intro, or_left, or_right, or_cases}
+use Rattle.rules.proofs.Logic.{T_true, true-T, along, and_left, and_right, and_intro, or_left, or_right}
 use Rattle.rules.proofs.Logic.{any-intro, not-intro, not-elim, not-not, decide}
 use Rattle.rules.proofs.More.{some_row-intro}
 use Rattle.rules.proofs.Rows.{start-lt}

@@ -1,5 +1,5 @@
 -- Request 11: the planner. The quoted sentences are document 02's.
-use Rattle.std.specs.Prelude.{Bool, cond, List, [], ◌∷◌, ◌⊎◌, ◌≡◌, ℕ, zero, suc, ◌<◌}
+use Rattle.std.specs.Prelude.{cond, List, [], ◌∷◌, ◌⊎◌, ◌≡◌, ℕ, zero, suc, ◌<◌}
 use Rattle.rules.specs.declared.Player.{Player}
 use Rattle.rules.specs.Grid.{put}
 use Rattle.hint.specs.Hint.{goes_on, may_attack, ends_at, eyes_from, after_both}

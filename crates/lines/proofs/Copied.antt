@@ -22,7 +22,7 @@ use Rattle.point.proofs.Stored.{place-stored, place-key}
 use Rattle.grid.specs.Lines.{cells_of, Sound}
 use Rattle.grid.proofs.Lines.{mask-sound}
 use Rattle.line.specs.declared.line.Line.{Line}
-use Rattle.board.specs.Boards.{cells, board_refusal, refusal_at}
+use Rattle.board.specs.Boards.{board_refusal, refusal_at}
 use Rattle.board.specs.declared.board.Board.{Board}
 use Rattle.board.proofs.Given.{sound-in, at_in}
 use Rattle.lines.specs.Copies.{line_of, shown_line, stored_line}

@@ -1,29 +1,27 @@
 -- What holds of every mended list (document 02, No. 12): no point twice; mended again all of it is kept; the live entry reads it as a board
 -- with as many stones. Assumes nothing.
 use mathlib.Core.Path.{◌≡◌, refl, sym, ap, ◌∙◌}
-use mathlib.Core.Bool.{Bool, true, false, not, ◌||◌}
-use mathlib.Core.List.{List, [], ◌∷◌, ◌++◌}
-use Prim.Native.Nat.{ℕ, suc, ◌+◌, ◌*◌, ◌≤◌, ◌<◌}
+use mathlib.Core.Bool.{false, not}
+use mathlib.Core.List.{List, [], ◌∷◌}
+use Prim.Native.Nat.{ℕ, ◌+◌, ◌≤◌, ◌<◌}
 use native.Mathlib.Omega.{arith}
-use lib.Dec.{eqb, ltb}
+use lib.Dec.{eqb}
 use lib.ListN.{length, get_or}
-use borrow.Author.Tests.{ne_eqb, le-ltb, lt-ltb}
+use borrow.Author.Tests.{ne_eqb, le-ltb}
 use Rattle.rules.specs.Refusals.{first}
 use Rattle.rules.specs.Bit.{count_of}
-use Rattle.rules.specs.Tools.{gather, only}
 use Rattle.rules.specs.Grid.{is_empty}
 use Rattle.rules.proofs.Refusals.{first-none}
-use Rattle.rules.proofs.Lists.{gather-front}
 use Rattle.cells.specs.Cells.{moves_cells}
 use Rattle.text.specs.Bytes.{comma, slash, digit_zero, capital_a, trim, has, parts, text_refusal}
 use Rattle.text.specs.Points.{points_refusal, points_in, leading_in, list_text_refusal}
 use Rattle.text.specs.Reading.{moves_in, form_refusal, read_refusal, read_cells}
 use Rattle.text.proofs.Items.{codes_all}
-use Rattle.display.specs.Texts.{point_text, item_text, point_item, points_text}
+use Rattle.display.specs.Texts.{points_text}
 use Rattle.display.proofs.PointBack.{Points, list-trim, list-good, list_read, list_back, list-has}
 use Rattle.display.proofs.Shown.{all-has}
 use Rattle.mending.specs.Mending.{kept_of, reason_of, once_of}
-use Rattle.mending.proofs.Once.{Once, has-append, once-all, once-short, stones-played}
+use Rattle.mending.proofs.Once.{Once, once-all, once-short, stones-played}
 use Rattle.mending.proofs.Moves.{kept-once, why-slip, kept-points, kept-none-twice}
 use Rattle.mending.proofs.Sizes.{list-short}
 

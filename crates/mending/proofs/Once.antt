@@ -1,6 +1,6 @@
 -- Lists in which no code stands twice: how they grow, what a game on an empty board makes of them, and that there are at most 225. Assumes
 -- nothing.
-use mathlib.Core.Path.{◌≡◌, refl, sym, ap, ap₂, ◌∙◌}
+use mathlib.Core.Path.{◌≡◌, refl, sym, ap, ◌∙◌}
 use mathlib.Core.Bool.{Bool, true, false, not, ◌||◌, cond}
 use mathlib.Core.Logic.{◌⊎◌, inl, inr}
 use mathlib.Core.List.{List, [], ◌∷◌, ◌++◌, append_assoc, append-nil}
@@ -8,19 +8,18 @@ use Prim.Native.Nat.{ℕ, zero, suc, ◌+◌, ◌≤◌, ◌<◌}
 use native.Mathlib.Nat.{zero-add}
 use native.Mathlib.Omega.{arith}
 use lib.Dec.{T, eqb, ltb, lt→ltb}
-use lib.ListN.{length, get_or, take, length-append, length-set}
+use lib.ListN.{length, get_or, length-set}
 use lib.Seq.{get_or-set_other}
-use borrow.Author.Tests.{eqb-true, eqb-false, ne_eqb}
+use borrow.Author.Tests.{eqb-false, ne_eqb}
 use Rattle.rules.specs.Numbers.{colour_no, opponent_of}
-use Rattle.rules.specs.Refusals.{unless}
 use Rattle.rules.specs.Bit.{digit, count_of}
 use Rattle.rules.specs.Tools.{all_below}
 use Rattle.rules.specs.Grid.{is_empty, put, play, empties}
 use Rattle.rules.specs.declared.Player.{Player}
 use Rattle.rules.specs.declared.Player.TheVariants.{Black}
-use Rattle.rules.proofs.Logic.{T_true, true-T, decide, no_true, all-intro}
+use Rattle.rules.proofs.Logic.{decide, no_true, all-intro}
 use Rattle.rules.proofs.Refusals.{pass}
-use Rattle.rules.proofs.Changes.{empties-le, empties-put, play-length}
+use Rattle.rules.proofs.Changes.{empties-put, play-length}
 use Rattle.lent.specs.Lists.{zeros}
 use Rattle.lent.proofs.Laws.{length-zeros, zeros-at}
 use Rattle.cells.specs.Cells.{puts, moves_cells, codes_refusal}

@@ -1,6 +1,6 @@
 -- What no refusal says of a point, a line or an index. Assumes nothing.
 use mathlib.Core.Path.{◌≡◌}
-use Prim.Native.Nat.{ℕ, zero, suc, ◌+◌, ◌-◌, ◌≤◌, ◌<◌}
+use Prim.Native.Nat.{ℕ, zero, suc, ◌+◌, ◌≤◌, ◌<◌}
 use native.Mathlib.Omega.{arith}
 use lib.Dec.{leb, ltb, leb→le, ltb→lt}
 use Rattle.rules.specs.Refusals.{unless, code_refusal, direction_refusal, view_refusal, line_no_refusal}

@@ -10,18 +10,17 @@ use native.Mathlib.Omega.{arith}
 use lib.Dec.{T, eqb, ltb, eqb→eq, eqb_refl, lt→ltb}
 use lib.ListN.{get_or}
 use borrow.Author.Tests.{eqb-false}
-use Rattle.rules.specs.Numbers.{is_none}
 use Rattle.rules.specs.Bit.{bit, mask_of}
 use Rattle.rules.specs.Grid.{Starts, start_masks, starts_of, numbered, next_from, rows_through}
 use Rattle.rules.specs.Forbidden.{some_row, more_than_one, black_rows, is_real, eye_of, real_threes, real_double, strict_of}
 use Rattle.rules.specs.declared.Player.TheVariants.{Black}
 use Rattle.rules.specs.declared.RowKind.TheVariants.{Three}
 use Rattle.rules.specs.declared.Verdict.TheVariants.{None, DoubleFour, Overline}
-use Rattle.rules.proofs.Logic.{T_true, true-T, no_true, along, both_ways, and_left, and_right, and_intro, or_cases, not-intro, not-elim}
+use Rattle.rules.proofs.Logic.{T_true, true-T, no_true, along, both_ways, and_left, and_right, and_intro, or_cases, not-elim}
 use Rattle.rules.proofs.Bits.{bit-none, bit_mask}
 use Rattle.rules.proofs.Lists.{get_d-tab}
 use Rattle.rules.proofs.More.{more-mono}
-use Rattle.rules.proofs.Numbered.{in-line, in_cell, next-ge, next_le, next-on, next-none}
+use Rattle.rules.proofs.Numbered.{in-line, in_cell, next-ge, next-on, next-none}
 use Rattle.rules.proofs.Starts.{start-low}
 use Rattle.rules.proofs.Search.{start_is}
 use Rattle.grid.specs.Lines.{cells_of, Sound}

@@ -13,7 +13,6 @@ use Rattle.rules.specs.declared.Verdict.{Verdict}
 use Rattle.rules.specs.declared.answer.CountAnswer.{CountAnswer}
 use Rattle.rules.specs.declared.answer.CountAnswer.TheVariants as count
 use Rattle.rules.specs.declared.answer.MaskAnswer.TheVariants as mask
-use Rattle.rules.specs.declared.answer.NumberAnswer.{NumberAnswer}
 use Rattle.rules.specs.declared.answer.NumberAnswer.TheVariants as number
 use Rattle.rules.proofs.Logic.{decide}
 use Rattle.lent.specs.Lists.{list_refusal, list_out, counted}

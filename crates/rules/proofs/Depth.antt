@@ -14,7 +14,7 @@ use lib.ListN.{length, get_or, length-set}
 use borrow.Author.Tests.{leb-true, leb-false}
 use Rattle.rules.specs.Point.{line_no, line_size, point_at}
 use Rattle.rules.specs.Grid.{is_empty, empties, stone_at, rows_through, eye_on, start_masks, starts_of, numbered, next_from}
-use Rattle.rules.specs.Forbidden.{Ask, with_black, completes_five, is_overline, is_double_four, more_twos, more_than_one, nested_n, nested_of}
+use Rattle.rules.specs.Forbidden.{Ask, with_black, completes_five, is_overline, is_double_four, more_twos, nested_n, nested_of}
 use Rattle.rules.specs.Forbidden.{gap_from, eye_of}
 use Rattle.rules.specs.Depth.{larger, greatest, counts, asks_nested, eye_depth, three_depth, deepest, depth_with, depth_of}
 use Rattle.rules.specs.Views.{turn, undo, turn_cells}
@@ -27,11 +27,11 @@ use Rattle.rules.proofs.Rows.{start-lt, through-inside, eye-inside}
 use Rattle.rules.proofs.More.{TwoLines, TwoApart, more-elim}
 use Rattle.rules.proofs.Numbered.{in-line, in_cell, next_le, next-ge, next-none}
 use Rattle.rules.proofs.Grown.{two-three}
-use Rattle.rules.proofs.Gap.{eye-open, eye-on, eye-only, gap-inside}
+use Rattle.rules.proofs.Gap.{eye-open, eye-on, eye-only}
 use Rattle.rules.proofs.Search.{start_is, three-there}
 use Rattle.rules.proofs.Changes.{empties-le}
 use Rattle.rules.proofs.Fuel.{Nests, fewer, nested-step}
-use Rattle.rules.proofs.Eight.{Turned, Blind, turned-back, turned-put, Moved, move, moved-lt, moved-matched, eye-turn, through-turn}
+use Rattle.rules.proofs.Eight.{Turned, Blind, turned-back, turned-put, move, moved-matched, eye-turn, through-turn}
 use Rattle.rules.proofs.Eight.{kept-eq, five-kept, overline-kept, double-four-kept, twos-kept}
 use Rattle.rules.proofs.Views.{turned-cells, nested-view}
 

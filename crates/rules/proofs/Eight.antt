@@ -9,7 +9,7 @@ use native.Mathlib.Decide.{ℕ_discrete, dec_lt}
 use lib.Dec.{T, eqb, eqb→eq, eqb_refl}
 use lib.ListN.{length, get_or, length-set}
 use lib.Seq.{get_or-set_same, get_or-set_other}
-use Rattle.rules.specs.Numbers.{colour_no, is_black, opponent_of, is_none}
+use Rattle.rules.specs.Numbers.{colour_no, is_black, opponent_of}
 use Rattle.rules.specs.Line.{Stones, row_at, span, through, among, is_eye}
 use Rattle.rules.specs.Point.{line_no, cell_no, line_size, point_at}
 use Rattle.rules.specs.Grid.{put, Starts, stone_at, row_on, eye_on, rows_through}

@@ -1,6 +1,6 @@
 -- The five that a stone makes: exactly five stones for Black, five or more for White; told by the Fours before the stone; the same in all
 -- eight views. Assumes nothing.
-use mathlib.Core.Path.{◌≡◌, refl, sym, ◌∙◌}
+use mathlib.Core.Path.{◌≡◌, refl, ◌∙◌}
 use mathlib.Core.Bool.{Bool, true, false, not, ◌&&◌, ◌||◌}
 use mathlib.Core.List.{List}
 use Prim.Native.Nat.{ℕ, ◌<◌}
@@ -17,7 +17,7 @@ use Rattle.rules.proofs.Logic.{and_left, and_right}
 use Rattle.rules.proofs.More.{some_row-same}
 use Rattle.rules.proofs.Starts.{some-masks, start-low}
 use Rattle.rules.proofs.Grown.{four-five}
-use Rattle.rules.proofs.Eight.{Turned, Blind, kept-eq, row_kept, turned-put}
+use Rattle.rules.proofs.Eight.{Blind, kept-eq, row_kept, turned-put}
 use Rattle.rules.proofs.Views.{turned-cells}
 
 -- "Black's five is exactly five": of a Five of Black's no black stone stands before or after the five

@@ -3,7 +3,6 @@ use mathlib.Core.Path.{ap, sym, ◌∙◌}
 use Rattle.lines.specs.Copies.{shown_line}
 use Rattle.lines.specs.declared.answer.StoredLineAnswer.TheVariants as line
 use Rattle.lines.proofs.Copied.{line_by, line-numbered, line_refused}
-use borrow.Author.Rules.{rules}
 use Rattle.lines.proofs.line.Goals as goal
 
 pub returns-then-refused-ne0 : goal.returns-then-refused-ne0

@@ -1,6 +1,5 @@
 -- `lines::line_of` meets its contract: what it calls says it. Assumes nothing.
 use Rattle.lines.specs.Copies.{shown_line}
-use borrow.Author.Rules.{rules}
 use Rattle.lines.proofs.line_of.Goals as goal
 
 pub returns : goal.returns

@@ -1,7 +1,6 @@
 -- `lines::line_on` meets its contract: the line that the address names. Assumes nothing.
 use Rattle.lines.specs.Copies.{line_through}
 use Rattle.lines.proofs.Copied.{line-through}
-use borrow.Author.Rules.{rules}
 use Rattle.lines.proofs.line_on.Goals as goal
 
 pub returns : goal.returns

@@ -1,6 +1,5 @@
 -- `lines::lines_on` meets its contract: what it calls says it. Assumes nothing.
 use Rattle.lines.specs.Copies.{lines_through}
-use borrow.Author.Rules.{rules}
 use Rattle.lines.proofs.lines_on.Goals as goal
 
 pub returns : goal.returns

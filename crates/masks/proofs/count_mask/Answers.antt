@@ -1,5 +1,4 @@
 -- `masks::count_mask` meets its contract. Assumes nothing.
-use borrow.Author.Rules.{rules}
 use Rattle.rules.proofs.Bits.{mask-cong}
 use Rattle.masks.proofs.Windows.{masks, tallied-count, count-bit}
 use Rattle.masks.proofs.count_mask.Goals as goal

@@ -1,5 +1,4 @@
 -- `masks::empty_cells` meets its contract. Assumes nothing.
-use borrow.Author.Rules.{rules}
 use Rattle.rules.proofs.Bits.{mask-cong}
 use Rattle.masks.proofs.Windows.{empty-bit, or16, masks, below, not-bits}
 use Rattle.masks.proofs.empty_cells.Goals as goal

@@ -1,5 +1,4 @@
 -- `masks::eyes_of` meets its contract. Assumes nothing.
-use borrow.Author.Rules.{rules}
 use Rattle.rules.specs.Line.{eyes_of}
 use Rattle.masks.proofs.Windows.{masks}
 use Rattle.masks.proofs.eyes_of.Goals as goal

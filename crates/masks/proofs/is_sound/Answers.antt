@@ -1,5 +1,4 @@
 -- `masks::is_sound` meets its contract: the mask of the cells that are not sound is empty. Assumes nothing.
-use borrow.Author.Rules.{rules}
 use Rattle.masks.proofs.Windows.{sound-mask, below}
 use Rattle.masks.proofs.is_sound.Goals as goal
 

@@ -2,7 +2,6 @@
 use mathlib.Core.Path.{sym, ◌∙◌}
 use lib.Dec.{lit<}
 use borrow.Author.Tests.{eq-eqb, ne_eqb}
-use borrow.Author.Rules.{rules}
 use Rattle.rules.proofs.Bits.{mask-ext, bit-none, bit-read, bit-shl-in}
 use Rattle.masks.proofs.Windows.{below, and-on, and-off}
 use Rattle.masks.proofs.moved.Goals as goal

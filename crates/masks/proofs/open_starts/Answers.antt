@@ -1,5 +1,4 @@
 -- `masks::open_starts` meets its contract. Assumes nothing.
-use borrow.Author.Rules.{rules}
 use Rattle.rules.proofs.Bits.{mask-cong}
 use Rattle.masks.proofs.Windows.{below, masks, not-shr4, open-bit}
 use Rattle.masks.proofs.open_starts.Goals as goal

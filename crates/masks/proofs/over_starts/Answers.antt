@@ -1,5 +1,4 @@
 -- `masks::over_starts` meets its contract. Assumes nothing.
-use borrow.Author.Rules.{rules}
 use Rattle.rules.proofs.Bits.{mask-cong}
 use Rattle.masks.proofs.Windows.{masks, over-bit}
 use Rattle.masks.proofs.over_starts.Goals as goal

@@ -1,5 +1,4 @@
 -- `masks::row_eyes` meets its contract. Assumes nothing.
-use borrow.Author.Rules.{rules}
 use Rattle.rules.proofs.Bits.{mask-cong}
 use Rattle.masks.proofs.Windows.{eyes-bit}
 use Rattle.masks.proofs.row_eyes.Goals as goal

@@ -1,5 +1,4 @@
 -- `masks::row_starts` meets its contract: its arms are the kinds of the definition. Assumes nothing.
-use borrow.Author.Rules.{rules}
 use Rattle.rules.specs.Line.{row_at}
 use Rattle.masks.proofs.row_starts.Goals as goal
 

@@ -1,5 +1,4 @@
 -- `masks::row_starts_on` meets its contract. Assumes nothing.
-use borrow.Author.Rules.{rules}
 use Rattle.rules.proofs.Bits.{mask-cong}
 use Rattle.masks.proofs.Windows.{masks, through-bit}
 use Rattle.masks.proofs.row_starts_on.Goals as goal

@@ -1,6 +1,4 @@
 -- `masks::score_bound` meets its contract. Assumes nothing.
-use native.Mathlib.Omega.{arith}
-use lib.Count.{ones-le}
 use borrow.Author.Rules.{rules}
 use Rattle.masks.proofs.Windows.{below, bound-none, bound_some}
 use Rattle.masks.proofs.score_bound.Goals as goal

@@ -1,5 +1,4 @@
 -- `masks::score_mask` meets its contract. Assumes nothing.
-use borrow.Author.Rules.{rules}
 use Rattle.rules.proofs.Bits.{mask-cong}
 use Rattle.masks.proofs.Windows.{masks, score-bit}
 use Rattle.masks.proofs.score_mask.Goals as goal

@@ -1,5 +1,4 @@
 -- `masks::segment_bits` meets its contract. Assumes nothing.
-use borrow.Author.Rules.{rules}
 use Rattle.masks.proofs.Windows.{below, segment-some, segment-none}
 use Rattle.masks.proofs.segment_bits.Goals as goal
 

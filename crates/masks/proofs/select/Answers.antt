@@ -1,5 +1,4 @@
 -- `masks::select` meets its contract, digit by digit. Assumes nothing.
-use borrow.Author.Rules.{rules}
 use Rattle.masks.proofs.Windows.{masks, has0, has1, has2}
 use Rattle.masks.proofs.select.Goals as goal
 

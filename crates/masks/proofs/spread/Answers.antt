@@ -1,9 +1,8 @@
 -- `masks::spread` meets its contract: after k turns the starts are spread over the cells below k. Assumes nothing.
 use mathlib.Core.Path.{◌≡◌, ap, ap₂, ◌∙◌}
-use Prim.Native.Nat.{ℕ, ◌≤◌, ◌-◌}
+use Prim.Native.Nat.{ℕ}
 use native.Mathlib.Omega.{arith}
 use lib.Bits.{bit_or}
-use borrow.Author.Rules.{rules}
 use Rattle.rules.specs.Bit.{bit, mask_of}
 use Rattle.rules.specs.Tools.{any_below}
 use Rattle.rules.specs.Line.{spread_at}

@@ -1,14 +1,9 @@
 -- `masks::spread` meets its contract: after k turns the starts are spread over the cells below k. Assumes nothing.
-use mathlib.Core.Path.{◌≡◌, ap, ap₂, ◌∙◌}
-use Prim.Native.Nat.{ℕ, ◌≤◌, ◌-◌}
-use native.Mathlib.Omega.{arith}
-use lib.Bits.{bit_or}
-use borrow.Author.Rules.{rules}
+use mathlib.Core.Path.{◌≡◌}
+use Prim.Native.Nat.{◌≤◌, ◌-◌}
 use Rattle.rules.specs.Bit.{bit, mask_of}
 use Rattle.rules.specs.Tools.{any_below}
-use Rattle.rules.specs.Line.{spread_at}
-use Rattle.rules.proofs.Bits.{mask-or}
-use Rattle.masks.proofs.Windows.{spreads, spread_none, spread-more}
+use Rattle.masks.proofs.Windows.{spreads}
 use Rattle.masks.proofs.spread.Given as goal
 
 abbrev pub invariant-loop-k : goal.invariant-loop-k

@@ -1,6 +1,5 @@
 -- `masks::starts_between` meets its contract. Assumes nothing.
 use mathlib.Core.Path.{◌∙◌}
-use borrow.Author.Rules.{rules}
 use Rattle.rules.proofs.Bits.{mask-cong}
 use Rattle.masks.proofs.Windows.{masks, up_to, up-to-all}
 use Rattle.masks.proofs.starts_between.Goals as goal

@@ -1,7 +1,6 @@
 -- `rules::colour_refusal` meets its contract: what it calls says it. Assumes nothing.
 use mathlib.Core.Path.{◌∙◌, ap}
 use mathlib.Core.Bool.{Bool}
-use borrow.Author.Rules.{rules}
 use Rattle.rules.specs.Refusals.{unless, colour_refusal}
 use Rattle.rules.proofs.colour_refusal.Goals as goal
 

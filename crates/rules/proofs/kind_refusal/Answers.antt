@@ -1,5 +1,4 @@
 -- `rules::kind_refusal` meets its contract: what it calls says it. Assumes nothing.
-use borrow.Author.Rules.{rules}
 use Rattle.rules.specs.Refusals.{kind_refusal}
 use Rattle.rules.proofs.kind_refusal.Goals as goal
 

@@ -1,7 +1,4 @@
 -- `board::count::column_stones` meets its contract: the bits below 15, counted. Assumes nothing.
-use native.Mathlib.Omega.{arith}
-use Prim.Native.Nat.{◌%◌}
-use lib.Count.{ones-le}
 use Rattle.board.proofs.Counted.{column-ones}
 use Rattle.board.proofs.count.column_stones.Goals as goal
 

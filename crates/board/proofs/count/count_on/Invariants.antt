@@ -1,12 +1,8 @@
 -- `board::count::count_on` meets its contract: after x columns it has the stones of the points in them. Assumes nothing.
-use mathlib.Core.Path.{◌≡◌, refl, ap, ◌∙◌}
-use Prim.Native.Nat.{ℕ, ◌*◌, ◌-◌, ◌≤◌}
-use native.Mathlib.Omega.{arith}
-use borrow.Author.Rules.{rules}
-use Rattle.rules.specs.Bit.{bit, count_of}
-use Rattle.rules.proofs.Bits.{count-le}
-use Rattle.board.specs.Boards.{stones_shown}
-use Rattle.board.proofs.Counted.{shown_at, shown-few, shown-step}
+use mathlib.Core.Path.{◌≡◌}
+use Prim.Native.Nat.{◌*◌, ◌-◌, ◌≤◌}
+use Rattle.rules.specs.Bit.{count_of}
+use Rattle.board.proofs.Counted.{shown_at}
 use Rattle.board.proofs.count.count_on.Given as goal
 
 abbrev pub invariant-loop-x : goal.invariant-loop-x

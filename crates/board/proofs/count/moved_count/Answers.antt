@@ -1,5 +1,4 @@
 -- `board::count::moved_count` meets its contract: by the two tests. Assumes nothing.
-use borrow.Author.Rules.{rules}
 use Rattle.board.specs.Boards.{moved_count}
 use Rattle.board.proofs.count.moved_count.Goals as goal
 

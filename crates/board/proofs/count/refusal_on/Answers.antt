@@ -1,5 +1,4 @@
 -- `board::count::refusal_on` meets its contract: on sound lines the stones shown are those of the points. Assumes nothing.
-use borrow.Author.Rules.{rules}
 use Rattle.board.proofs.Given.{refusal-shown}
 use Rattle.board.proofs.count.refusal_on.Goals as goal
 

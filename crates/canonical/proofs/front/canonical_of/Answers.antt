@@ -10,7 +10,6 @@ use Rattle.rules.specs.Views.{turn_cells}
 use Rattle.lent.specs.Lists.{list_refusal, list_out}
 use Rattle.cells.proofs.Given.{length-turned}
 use Rattle.canonical.specs.Canonical.{canonical_view, canonical_cells}
-use borrow.Author.Rules.{rules}
 use Rattle.canonical.proofs.front.canonical_of.Goals as goal
 
 pub returns : goal.returns

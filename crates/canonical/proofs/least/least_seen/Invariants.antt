@@ -1,14 +1,8 @@
 -- `canonical::least::least_seen` meets its contract: it has the least of the views below `view`. Assumes nothing.
-use mathlib.Core.Path.{◌≡◌, sym, ap, ap₂, ◌∙◌}
-use mathlib.Core.Bool.{not}
+use mathlib.Core.Path.{◌≡◌}
 use Prim.Native.Nat.{◌≤◌, ◌-◌}
-use native.Mathlib.Omega.{arith}
-use lib.ListN.{length}
-use borrow.Author.Rules.{rules}
 use Rattle.rules.specs.Views.{turn_cells}
-use Rattle.cells.proofs.Given.{length-turned}
-use Rattle.canonical.specs.Canonical.{less}
-use Rattle.canonical.proofs.Eight.{least_of, least-none, least-taken, least_kept, least-found}
+use Rattle.canonical.proofs.Eight.{least_of}
 use Rattle.canonical.proofs.least.least_seen.Given as goal
 
 abbrev pub invariant-loop-view : goal.invariant-loop-view

@@ -1,9 +1,6 @@
 -- `canonical::order::less` meets its contract: what is left of both lists is compared as the whole. Assumes nothing.
-use mathlib.Core.Path.{◌≡◌, refl, sym, ◌∙◌}
-use Prim.Native.Nat.{◌≤◌, ◌-◌}
+use mathlib.Core.Path.{sym, ◌∙◌}
 use native.Mathlib.Omega.{arith}
-use lib.ListN.{length, drop}
-use Rattle.canonical.specs.Canonical.{less}
 use Rattle.canonical.proofs.Ordered.{less-more, less-differ, less-short, less-end}
 use Rattle.canonical.proofs.order.less.Goals as goal
 

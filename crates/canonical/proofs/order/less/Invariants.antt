@@ -1,10 +1,8 @@
 -- `canonical::order::less` meets its contract: what is left of both lists is compared as the whole. Assumes nothing.
-use mathlib.Core.Path.{◌≡◌, refl, sym, ◌∙◌}
+use mathlib.Core.Path.{◌≡◌}
 use Prim.Native.Nat.{◌≤◌, ◌-◌}
-use native.Mathlib.Omega.{arith}
 use lib.ListN.{length, drop}
 use Rattle.canonical.specs.Canonical.{less}
-use Rattle.canonical.proofs.Ordered.{less-more, less-differ, less-short, less-end}
 use Rattle.canonical.proofs.order.less.Given as goal
 
 abbrev pub invariant-loop-i : goal.invariant-loop-i

@@ -3,7 +3,6 @@ use mathlib.Core.Path.{ap₂, ◌∙◌}
 use Rattle.lent.specs.Lists.{zeros}
 use Rattle.cells.specs.Cells.{moves_cells}
 use Rattle.cells.specs.Answers.{cells_answer}
-use borrow.Author.Rules.{rules}
 use Rattle.cells.proofs.build.moves_cells.Goals as goal
 
 pub returns : goal.returns

@@ -1,15 +1,9 @@
 -- `cells::build::put_codes` meets its contract: what is left to put, put on the cells as they are, gives the whole. Assumes nothing.
-use mathlib.Core.Path.{◌≡◌, refl, ap, ap₂, sym, ◌∙◌}
-use mathlib.Core.List.{List}
-use Prim.Native.Nat.{ℕ, ◌+◌, ◌≤◌, ◌-◌}
-use native.Mathlib.Omega.{arith}
-use lib.ListN.{length, get_or, set, drop}
+use mathlib.Core.Path.{◌≡◌}
+use Prim.Native.Nat.{◌≤◌, ◌-◌}
+use lib.ListN.{length, drop}
 use Rattle.rules.specs.Grid.{play}
-use Rattle.rules.specs.declared.Player.{Player}
-use Rattle.rules.proofs.Changes.{play-length}
 use Rattle.cells.specs.Cells.{puts}
-use Rattle.cells.proofs.Given.{puts-more, puts-end}
-use borrow.Author.Rules.{rules}
 use Rattle.cells.proofs.build.put_codes.Given as goal
 
 abbrev pub invariant-loop-i : goal.invariant-loop-i

@@ -7,7 +7,6 @@ use Rattle.rules.specs.declared.Player.TheVariants.{White}
 use Rattle.lent.specs.Lists.{zeros}
 use Rattle.cells.specs.Cells.{puts, stones_cells}
 use Rattle.cells.specs.Answers.{cells_answer}
-use borrow.Author.Rules.{rules}
 use Rattle.cells.proofs.build.stones_cells.Goals as goal
 
 pub returns : goal.returns

@@ -4,7 +4,6 @@ use native.Mathlib.Omega.{arith}
 use lib.ListN.{set}
 use Rattle.cells.specs.Calls.{after_put}
 use Rattle.cells.proofs.Given.{cells-for-in, colour-cell, kept-as-was, changed-to}
-use borrow.Author.Rules.{rules}
 use Rattle.cells.proofs.change.put_of.Goals as goal
 
 pub returns-then-refused-ne0 : goal.returns-then-refused-ne0

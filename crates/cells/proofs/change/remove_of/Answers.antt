@@ -3,7 +3,6 @@ use mathlib.Core.Path.{refl, sym, ◌∙◌}
 use native.Mathlib.Omega.{arith}
 use Rattle.cells.specs.Calls.{after_remove}
 use Rattle.cells.proofs.Given.{cells-at-in, kept-as-was, changed-to}
-use borrow.Author.Rules.{rules}
 use Rattle.cells.proofs.change.remove_of.Goals as goal
 
 pub returns-then-refused-ne0 : goal.returns-then-refused-ne0

@@ -1,13 +1,8 @@
 -- `cells::codes::keep_neighbors` meets its contract: after s turns the first s cells are looked at. Assumes nothing.
-use mathlib.Core.List.{[], ◌∷◌}
 use Prim.Native.Nat.{◌+◌, ◌-◌, ◌≤◌}
-use native.Mathlib.Omega.{arith}
-use borrow.Author.Rules.{rules}
 use Rattle.rules.specs.Tools.{gather}
 use Rattle.lent.specs.Lists.{Wrote}
-use Rattle.lent.proofs.Laws.{wrote-same, wrote-first, wrote-step, wrote-top}
 use Rattle.rules.specs.Grid.{neighbour_item}
-use Rattle.cells.proofs.Kept.{near-short}
 use Rattle.cells.proofs.codes.keep_neighbors.Given as goal
 
 abbrev pub invariant-loop-s : goal.invariant-loop-s

@@ -2,7 +2,6 @@
 use mathlib.Core.Path.{ap, ap₂, ◌∙◌}
 use Prim.Native.Nat.{ℕ, ◌+◌, ◌-◌}
 use native.Mathlib.Omega.{arith}
-use borrow.Author.Rules.{rules}
 use Rattle.rules.specs.Point.{line_no, cell_no, line_size, point_at}
 use Rattle.rules.proofs.Address.{line-here, cell-here, point-lt}
 use Rattle.rules.proofs.Address.{size-le}

@@ -1,12 +1,8 @@
 -- `cells::codes::neighbor_points` meets its contract: after d turns the first d directions are done. Assumes nothing.
 use Prim.Native.Nat.{◌-◌, ◌≤◌}
-use native.Mathlib.Omega.{arith}
-use borrow.Author.Rules.{rules}
 use Rattle.rules.specs.Tools.{gather}
-use Rattle.rules.specs.Grid.{neighbours, neighbours_in}
+use Rattle.rules.specs.Grid.{neighbours_in}
 use Rattle.lent.specs.Lists.{zeros, Wrote}
-use Rattle.lent.proofs.Laws.{wrote-start, wrote-length, wrote-part}
-use Rattle.cells.proofs.Kept.{around-short, parts-place, parts-end}
 use Rattle.cells.proofs.codes.neighbor_points.Given as goal
 
 abbrev pub invariant-loop-d : goal.invariant-loop-d

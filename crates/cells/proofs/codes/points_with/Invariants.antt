@@ -1,14 +1,8 @@
 -- `cells::codes::points_with` meets its contract: after p turns the points below p are looked at. Assumes nothing.
-use mathlib.Core.List.{[], ◌∷◌}
 use Prim.Native.Nat.{◌-◌, ◌≤◌}
-use native.Mathlib.Omega.{arith}
-use lib.Dec.{eqb}
-use lib.ListN.{get_or}
-use borrow.Author.Rules.{rules}
 use Rattle.rules.specs.Tools.{gather}
 use Rattle.lent.specs.Lists.{zeros, Wrote}
-use Rattle.lent.proofs.Laws.{wrote-start, wrote-length, gather-step, gather-end, short}
-use Rattle.cells.specs.Cells.{value_item, value_list}
+use Rattle.cells.specs.Cells.{value_item}
 use Rattle.cells.proofs.codes.points_with.Given as goal
 
 abbrev pub invariant-loop-p : goal.invariant-loop-p

@@ -3,7 +3,6 @@ use mathlib.Core.Path.{ap₂, ◌∙◌}
 use Rattle.rules.specs.Refusals.{first}
 use Rattle.cells.proofs.Given.{length-turned}
 use Rattle.cells.proofs.Kept.{handed-whole}
-use borrow.Author.Rules.{rules}
 use Rattle.cells.proofs.front.turned_of.Goals as goal
 
 pub returns : goal.returns

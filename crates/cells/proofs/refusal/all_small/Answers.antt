@@ -1,11 +1,10 @@
 -- `cells::refusal::all_small` meets its contract: the greatest of the bytes below i is at most 2 where each of them is. Assumes nothing.
-use mathlib.Core.Path.{◌≡◌, refl, ap, ◌∙◌}
+use mathlib.Core.Path.{refl, ap, ◌∙◌}
 use mathlib.Core.Bool.{Bool, ◌&&◌}
-use Prim.Native.Nat.{ℕ, ◌≤◌, ◌-◌}
+use Prim.Native.Nat.{ℕ}
 use native.Mathlib.Omega.{arith}
 use lib.Dec.{leb}
 use lib.ListN.{get_or}
-use borrow.Author.Rules.{rules}
 use Rattle.rules.specs.Tools.{all_below}
 use Rattle.rules.proofs.Logic.{and-flip, all-step}
 use Rattle.rules.proofs.Depth.{larger-leb}

@@ -1,14 +1,9 @@
 -- `cells::refusal::all_small` meets its contract: the greatest of the bytes below i is at most 2 where each of them is. Assumes nothing.
-use mathlib.Core.Path.{◌≡◌, refl, ap, ◌∙◌}
-use mathlib.Core.Bool.{Bool, ◌&&◌}
-use Prim.Native.Nat.{ℕ, ◌≤◌, ◌-◌}
-use native.Mathlib.Omega.{arith}
+use mathlib.Core.Path.{◌≡◌}
+use Prim.Native.Nat.{◌≤◌, ◌-◌}
 use lib.Dec.{leb}
 use lib.ListN.{get_or}
-use borrow.Author.Rules.{rules}
 use Rattle.rules.specs.Tools.{all_below}
-use Rattle.rules.proofs.Logic.{and-flip, all-step}
-use Rattle.rules.proofs.Depth.{larger-leb}
 use Rattle.cells.proofs.refusal.all_small.Given as goal
 
 abbrev pub invariant-loop-i : goal.invariant-loop-i

@@ -1,7 +1,6 @@
 -- `cells::refusal::cells_neighbors_refusal` meets its contract: what it calls says it. Assumes nothing.
 use Rattle.rules.specs.Refusals.{distance_refusal}
 use Rattle.cells.specs.Cells.{cells_neighbours_refusal}
-use borrow.Author.Rules.{rules}
 use Rattle.cells.proofs.refusal.cells_neighbors_refusal.Goals as goal
 
 pub returns : goal.returns

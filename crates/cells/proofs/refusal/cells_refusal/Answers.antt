@@ -1,7 +1,6 @@
 -- `cells::refusal::cells_refusal` meets its contract: the length, then the bytes. Assumes nothing.
 use mathlib.Core.Path.{sym, ◌∙◌}
 use lib.ListN.{length}
-use borrow.Author.Rules.{rules}
 use borrow.Author.Tests.{eq-eqb, ne_eqb}
 use Rattle.rules.specs.Refusals.{unless}
 use Rattle.cells.specs.Cells.{cells_refusal}

@@ -1,6 +1,5 @@
 -- `cells::refusal::cells_refusal_for` meets its contract: what it calls says it. Assumes nothing.
 use Rattle.cells.specs.Cells.{cells_refusal_for}
-use borrow.Author.Rules.{rules}
 use Rattle.cells.proofs.refusal.cells_refusal_for.Goals as goal
 
 pub returns : goal.returns

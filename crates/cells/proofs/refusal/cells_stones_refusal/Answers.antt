@@ -1,6 +1,5 @@
 -- `cells::refusal::cells_stones_refusal` meets its contract: what it calls says it. Assumes nothing.
 use Rattle.cells.specs.Cells.{cells_stones_refusal}
-use borrow.Author.Rules.{rules}
 use Rattle.cells.proofs.refusal.cells_stones_refusal.Goals as goal
 
 pub returns : goal.returns

@@ -1,6 +1,5 @@
 -- `cells::refusal::moves_refusal` meets its contract: how many there are, then the codes. Assumes nothing.
 use lib.ListN.{length}
-use borrow.Author.Rules.{rules}
 use borrow.Author.Tests.{le-leb, lt-leb}
 use Rattle.rules.specs.Refusals.{unless, first}
 use Rattle.cells.specs.Cells.{moves_refusal}

@@ -1,14 +1,10 @@
 -- `cells::stones::counts_of` meets its contract: refused, or both colours counted. Assumes nothing.
 use mathlib.Core.Path.{sym, ap₂, ◌∙◌}
 use Prim.Native.Nat.{ℕ, ◌+◌, ◌*◌}
-use native.Mathlib.Omega.{arith}
-use borrow.Author.Rules.{rules}
 use Rattle.rules.specs.Answers.{count_answer}
-use Rattle.rules.specs.declared.Player.TheVariants.{Black, White}
 use Rattle.rules.specs.declared.answer.CountAnswer.TheVariants as count
 use Rattle.rules.proofs.Refusals.{value-given, refusal-given}
 use Rattle.cells.proofs.Given.{cells_in}
-use Rattle.cells.proofs.Counts.{stones-le}
 use Rattle.cells.proofs.stones.counts_of.Goals as goal
 
 pub returns-then-refused-ne0 : goal.returns-then-refused-ne0

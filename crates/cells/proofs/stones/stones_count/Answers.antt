@@ -1,12 +1,11 @@
 -- `cells::stones::stones_count` meets its contract: it has the stones below i. Assumes nothing.
 use mathlib.Core.Path.{◌≡◌, refl, ap₂, ◌∙◌}
 use mathlib.Core.Bool.{Bool}
-use Prim.Native.Nat.{ℕ, ◌+◌, ◌-◌, ◌≤◌}
+use Prim.Native.Nat.{ℕ, ◌+◌, ◌≤◌}
 use native.Mathlib.Omega.{arith}
 use lib.Dec.{eqb}
 use lib.ListN.{get_or}
-use borrow.Author.Rules.{rules}
-use Rattle.rules.specs.Bit.{digit, count_of}
+use Rattle.rules.specs.Bit.{count_of}
 use Rattle.rules.proofs.Bits.{count-le}
 use Rattle.cells.specs.Counts.{stones_count}
 use Rattle.cells.proofs.Counts.{count-step, digit-le}
@@ -24,12 +23,11 @@ overflow_add-n c =
     omega (arith, few, c.loop-i.invariant.0, c.digit-n.ensures, digit-le tested)
 
 pub loop-i-preserved : goal.loop-i-preserved
-loop-i-preserved c =
-    (
-      omega arith,
-      ap₂ (λ (a b : ℕ). a + b) c.loop-i.invariant.1 c.digit-n.ensures
-          ∙ count-step c.loop-i.i (λ p. eqb (get_or c.args.cells.now p 0) c.number-colour.result),
-    )
+loop-i-preserved c = (
+  omega arith,
+  ap₂ (λ (a b : ℕ). a + b) c.loop-i.invariant.1 c.digit-n.ensures
+      ∙ count-step c.loop-i.i (λ p. eqb (get_or c.args.cells.now p 0) c.number-colour.result),
+)
 
 pub returns : goal.returns
 unfolding stones_count

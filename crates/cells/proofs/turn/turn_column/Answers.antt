@@ -1,12 +1,9 @@
 -- `cells::turn::turn_column` meets its contract: the points below q are filled in, and the next one's cell is known. Assumes nothing.
-use mathlib.Core.Path.{◌≡◌, ap, ◌∙◌}
+use mathlib.Core.Path.{ap, ◌∙◌}
 use mathlib.Core.List.{List}
-use Prim.Native.Nat.{ℕ, ◌+◌, ◌-◌, ◌*◌, ◌%◌, ◌≤◌, ◌<◌}
+use Prim.Native.Nat.{ℕ, ◌-◌, ◌*◌, ◌%◌, ◌<◌}
 use native.Mathlib.Omega.{arith}
 use lib.ListN.{get_or, set}
-use borrow.Author.Rules.{rules}
-use Rattle.rules.specs.Views.{turn}
-use Rattle.cells.specs.Turned.{turned_to}
 use Rattle.cells.proofs.Stepped.{turn_in, turn-next, turn_near, turned_more}
 use Rattle.cells.proofs.turn.turn_column.Goals as goal
 

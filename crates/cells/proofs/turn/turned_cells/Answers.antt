@@ -1,10 +1,9 @@
 -- `cells::turn::turned_cells` meets its contract: after x turns the first x columns are filled in. Assumes nothing.
 use mathlib.Core.Path.{◌≡◌, ap, ◌∙◌}
 use mathlib.Core.List.{List}
-use Prim.Native.Nat.{ℕ, ◌+◌, ◌-◌, ◌*◌, ◌≤◌}
+use Prim.Native.Nat.{ℕ, ◌*◌}
 use native.Mathlib.Omega.{arith}
 use lib.ListN.{get_or}
-use borrow.Author.Rules.{rules}
 use Rattle.lent.specs.Lists.{zeros}
 use Rattle.cells.specs.Turned.{turned_to}
 use Rattle.cells.proofs.Stepped.{copied, turned_none, turned-all}

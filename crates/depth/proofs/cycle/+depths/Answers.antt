@@ -2,26 +2,22 @@
 -- board `deepest_eye` 4, `eye_depth` 3, `depth_by` 2, `trial_depth` 1. Assumes nothing.
 use mathlib.Core.Path.{◌≡◌, refl, ap, sym, subst, ◌∙◌}
 use mathlib.Core.List.{List}
-use Prim.Native.Nat.{ℕ, ◌+◌, ◌-◌, ◌*◌, ◌/◌, ◌%◌, ◌<◌}
+use Prim.Native.Nat.{ℕ, ◌+◌, ◌-◌, ◌/◌, ◌%◌, ◌<◌}
 use native.Mathlib.Omega.{arith}
 use lib.Dec.{T}
-use borrow.Author.Rules.{rules}
-use Rattle.rules.specs.Grid.{empties, starts_of, rows_through, numbered, next_from}
+use Rattle.rules.specs.Grid.{starts_of, rows_through, numbered}
 use Rattle.rules.specs.Forbidden.{eye_of}
 use Rattle.rules.specs.Depth.{eye_depth, deepest, depth_of}
 use Rattle.rules.specs.declared.Player.TheVariants.{Black}
 use Rattle.rules.specs.declared.RowKind.TheVariants.{Three}
 use Rattle.rules.proofs.Numbered.{next_le}
 use Rattle.rules.proofs.Search.{three-there}
-use Rattle.rules.proofs.Depth.{deepest_below, to-three, one_deeper, deepest-all, depth-one, depth-more, depth-byte}
+use Rattle.rules.proofs.Depth.{to-three, one_deeper, deepest-all, depth-one, depth-more, depth-byte}
 use Rattle.grid.specs.Lines.{cells_of, Sound}
 use Rattle.grid.proofs.Lines.{length-cells_of}
-use Rattle.referee.proofs.RowsSeen.{triable}
 use Rattle.referee.proofs.EyeFound.{eye-small, eye-empty}
 use Rattle.referee.proofs.Asked.{on-sound, on-cells, on-fewer, on-threes, added, lifted, fewer}
 use Rattle.depth.proofs.Looked.{empty-is, none_below, not-before, nested-seen, five-counts, deep-counts}
-use borrow.Fn.Kinds.{In}
-use borrow.Fn.PlainCycle.{Measures, is, falls, and}
 use Rattle.depth.proofs.cycle.+depths.Goals as goal
 
 pub deepest_eye-loop-three-init : goal.deepest_eye-loop-three-init
@@ -119,11 +115,10 @@ eye_depth-rows_at-rows-requires t c =
     )
 
 pub eye_depth-returns-then-some_row : goal.eye_depth-returns-then-some_row
-eye_depth-returns-then-some_row t c =
-    (
-      five-counts (cells_of c.args.lines.now) _ c.rows_at-rows.ensures c.eye_at-eye.ensures c.some_row.ensures c.if-some_row.true,
-      refl,
-    )
+eye_depth-returns-then-some_row t c = (
+  five-counts (cells_of c.args.lines.now) _ c.rows_at-rows.ensures c.eye_at-eye.ensures c.some_row.ensures c.if-some_row.true,
+  refl,
+)
 
 pub eye_depth-depth_by-requires : goal.eye_depth-depth_by-requires
 eye_depth-depth_by-requires t c =
@@ -144,12 +139,11 @@ eye_depth-depth_by-requires t c =
     )
 
 pub eye_depth-returns : goal.eye_depth-returns
-eye_depth-returns t c =
-    (
-      deep-counts (cells_of c.args.lines.now) _ c.rows_at-rows.ensures c.eye_at-eye.ensures c.some_row.ensures
-          c.if-some_row.false c.depth_by.ensures.0,
-      c.depth_by.ensures.1,
-    )
+eye_depth-returns t c = (
+  deep-counts (cells_of c.args.lines.now) _ c.rows_at-rows.ensures c.eye_at-eye.ensures c.some_row.ensures
+      c.if-some_row.false c.depth_by.ensures.0,
+  c.depth_by.ensures.1,
+)
 
 pub trial_depth-deepest_eye-deep-requires : goal.trial_depth-deepest_eye-deep-requires
 trial_depth-deepest_eye-deep-requires t c =

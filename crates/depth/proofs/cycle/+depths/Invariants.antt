@@ -1,27 +1,11 @@
 -- The four functions of the cycle meet their contracts. What falls at each call is six times the number of empty points, and a little: on one
 -- board `deepest_eye` 4, `eye_depth` 3, `depth_by` 2, `trial_depth` 1. Assumes nothing.
-use mathlib.Core.Path.{◌≡◌, refl, ap, sym, subst, ◌∙◌}
-use mathlib.Core.List.{List}
-use Prim.Native.Nat.{ℕ, ◌+◌, ◌-◌, ◌*◌, ◌/◌, ◌%◌, ◌<◌}
-use native.Mathlib.Omega.{arith}
-use lib.Dec.{T}
-use borrow.Author.Rules.{rules}
-use Rattle.rules.specs.Grid.{empties, starts_of, rows_through, numbered, next_from}
-use Rattle.rules.specs.Forbidden.{eye_of}
-use Rattle.rules.specs.Depth.{eye_depth, deepest, depth_of}
-use Rattle.rules.specs.declared.Player.TheVariants.{Black}
-use Rattle.rules.specs.declared.RowKind.TheVariants.{Three}
-use Rattle.rules.proofs.Numbered.{next_le}
-use Rattle.rules.proofs.Search.{three-there}
-use Rattle.rules.proofs.Depth.{deepest_below, to-three, one_deeper, deepest-all, depth-one, depth-more, depth-byte}
-use Rattle.grid.specs.Lines.{cells_of, Sound}
-use Rattle.grid.proofs.Lines.{length-cells_of}
-use Rattle.referee.proofs.RowsSeen.{triable}
-use Rattle.referee.proofs.EyeFound.{eye-small, eye-empty}
-use Rattle.referee.proofs.Asked.{on-sound, on-cells, on-fewer, on-threes, added, lifted, fewer}
-use Rattle.depth.proofs.Looked.{empty-is, none_below, not-before, nested-seen, five-counts, deep-counts}
-use borrow.Fn.Kinds.{In}
-use borrow.Fn.PlainCycle.{Measures, is, falls, and}
+use mathlib.Core.Path.{◌≡◌}
+use Prim.Native.Nat.{ℕ, ◌+◌, ◌-◌, ◌*◌}
+use Rattle.rules.specs.Grid.{empties, starts_of, numbered, next_from}
+use Rattle.rules.specs.Depth.{depth_of}
+use Rattle.rules.proofs.Depth.{deepest_below}
+use Rattle.grid.specs.Lines.{cells_of}
 use Rattle.depth.proofs.cycle.+depths.Given as goal
 
 abbrev pub decreases-deepest_eye : goal.decreases-deepest_eye

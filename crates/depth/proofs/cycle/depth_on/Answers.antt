@@ -1,6 +1,5 @@
 -- `depth::cycle::depth_on` meets its contract. Assumes nothing.
 use mathlib.Core.Path.{refl, sym, ◌∙◌}
-use borrow.Author.Rules.{rules}
 use borrow.Author.Tests.{ne_eqb}
 use Rattle.rules.proofs.Depth.{depth-taken}
 use Rattle.grid.specs.Lines.{cells_of}

@@ -1,6 +1,5 @@
 -- `depth::front::depth` meets its contract: refused, or asked on a local copy of the lines. Assumes nothing.
 use mathlib.Core.Path.{sym, ◌∙◌}
-use borrow.Author.Rules.{rules}
 use Rattle.rules.specs.Answers.{number_answer}
 use Rattle.rules.specs.Depth.{depth_of}
 use Rattle.rules.specs.declared.answer.NumberAnswer.TheVariants as number

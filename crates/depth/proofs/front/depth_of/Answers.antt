@@ -1,5 +1,4 @@
 -- `depth::front::depth_of` meets its contract: the depth alone of the answer that has both. Assumes nothing.
-use borrow.Author.Rules.{rules}
 use Rattle.rules.specs.Forbidden.{strict_of}
 use Rattle.rules.specs.Depth.{depth_of}
 use Rattle.cells.specs.Cells.{cells_refusal_at}

@@ -2,7 +2,6 @@
 use mathlib.Core.Path.{ap, sym, ◌∙◌}
 use mathlib.Core.List.{List}
 use Prim.Native.Nat.{ℕ}
-use borrow.Author.Rules.{rules}
 use Rattle.rules.specs.Depth.{depth_of}
 use Rattle.rules.proofs.Logic.{true-T}
 use Rattle.referee.proofs.Asked.{lines-of-sound, lines-of-cells, lines-wanted}

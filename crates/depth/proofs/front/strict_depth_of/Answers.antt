@@ -1,5 +1,4 @@
 -- `depth::front::strict_depth_of` meets its contract: refused as the verdict is, or both are of the cells. Assumes nothing.
-use borrow.Author.Rules.{rules}
 use Rattle.rules.specs.Forbidden.{strict_of}
 use Rattle.rules.specs.Depth.{depth_of}
 use Rattle.cells.specs.Cells.{cells_refusal_at}

@@ -1,7 +1,6 @@
 -- `depth::look::eye_at` meets its contract. Assumes nothing.
 use Prim.Native.Nat.{◌/◌, ◌%◌}
 use native.Mathlib.Omega.{arith}
-use borrow.Author.Rules.{rules}
 use Rattle.grid.proofs.Placed.{by-addresses}
 use Rattle.depth.proofs.Looked.{eye-seen, eye-byte}
 use Rattle.depth.proofs.look.eye_at.Goals as goal

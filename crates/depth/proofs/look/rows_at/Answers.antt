@@ -1,6 +1,5 @@
 -- `depth::look::rows_at` meets its contract. Assumes nothing.
 use mathlib.Core.Path.{◌∙◌, sym, subst}
-use borrow.Author.Rules.{rules}
 use Rattle.rules.specs.declared.Player.TheVariants.{Black, White}
 use Rattle.grid.specs.Lines.{cells_of}
 use Rattle.grid.proofs.Placed.{masks-by}

@@ -1,9 +1,6 @@
 -- `diagrams::convert::convert_diagram` meets its contract: refused as a diagram is, or the stones of its cells. Assumes nothing.
-use mathlib.Core.Path.{◌≡◌, ap, ap₂, sym, ◌∙◌}
-use Prim.Native.Nat.{ℕ}
 use Rattle.lent.proofs.Laws.{turned_down}
 use Rattle.diagrams.proofs.Handing.{diagram-refused, diagram-read}
-use borrow.Author.Rules.{rules}
 use Rattle.diagrams.proofs.convert.convert_diagram.Goals as goal
 
 pub returns-then-read-ne0 : goal.returns-then-read-ne0

@@ -1,6 +1,5 @@
 -- `diagrams::side::length_of` meets its contract: its arms are the cases of the definition. Assumes nothing.
 use Rattle.diagrams.specs.Stones.{length_of}
-use borrow.Author.Rules.{rules}
 use Rattle.diagrams.proofs.side.length_of.Goals as goal
 
 pub returns-in-Is : goal.returns-in-Is

@@ -3,7 +3,6 @@ use mathlib.Core.Path.{◌∙◌}
 use Rattle.lent.specs.Lists.{zeros}
 use Rattle.lent.proofs.Laws.{held-take}
 use Rattle.diagrams.proofs.Sides.{side-held}
-use borrow.Author.Rules.{rules}
 use Rattle.diagrams.proofs.side.side_text.Goals as goal
 
 pub returns : goal.returns

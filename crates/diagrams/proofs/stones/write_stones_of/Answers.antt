@@ -1,16 +1,13 @@
 -- `diagrams::stones::write_stones_of` meets its contract: both sides are written and put together, then refused or kept. Assumes nothing.
-use mathlib.Core.Path.{◌≡◌, ap, sym, ◌∙◌}
+use mathlib.Core.Path.{ap, ◌∙◌}
 use mathlib.Core.Bool.{true}
 use Prim.Native.Nat.{ℕ}
-use native.Mathlib.Omega.{arith}
-use lib.ListN.{length, take}
 use Rattle.rules.specs.Refusals.{first}
 use Rattle.lent.specs.Lists.{kept_in}
-use Rattle.lent.proofs.Laws.{held-take, held-as, held-le}
+use Rattle.lent.proofs.Laws.{held-take, held-as}
 use Rattle.diagrams.specs.Stones.{stones_text, cells_sides_refusal}
 use Rattle.diagrams.proofs.Sides.{both-text, all_told}
 use Rattle.diagrams.proofs.Handing.{refused-alone, put_in}
-use borrow.Author.Rules.{rules}
 use Rattle.diagrams.proofs.stones.write_stones_of.Goals as goal
 
 pub returns-then-refused-ne0 : goal.returns-then-refused-ne0

@@ -8,7 +8,6 @@ use Rattle.rules.specs.Tools.{only}
 use Rattle.text.specs.Bytes.{newline}
 use Rattle.display.specs.Texts.{row_text, plain_row}
 use Rattle.display.proofs.Writing.{kept, then, room-behind}
-use borrow.Author.Rules.{rules}
 use Rattle.display.proofs.diagram.plain_row_into.Goals as goal
 
 pub row_into-end-requires : goal.row_into-end-requires

@@ -4,7 +4,6 @@ use native.Mathlib.Omega.{arith}
 use lib.ListN.{length}
 use Rattle.lent.proofs.Laws.{wrote_as}
 use Rattle.display.proofs.Steps.{row-steps}
-use borrow.Author.Rules.{rules}
 use Rattle.display.proofs.diagram.row_into.Goals as goal
 
 pub line_into-requires : goal.line_into-requires

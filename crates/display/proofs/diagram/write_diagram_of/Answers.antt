@@ -3,7 +3,6 @@ use native.Mathlib.Omega.{arith}
 use Rattle.lent.specs.Lists.{zeros}
 use Rattle.display.proofs.Writing.{handed}
 use Rattle.display.proofs.Sizes.{diagram-length}
-use borrow.Author.Rules.{rules}
 use Rattle.display.proofs.diagram.write_diagram_of.Goals as goal
 
 pub diagram_into-n-requires : goal.diagram_into-n-requires

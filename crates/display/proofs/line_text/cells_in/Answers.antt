@@ -1,12 +1,11 @@
 -- `display::line_text::cells_in` meets its contract: after i turns the first i cells are filled in. Assumes nothing.
 use mathlib.Core.Path.{◌≡◌, ap, ◌∙◌}
-use Prim.Native.Nat.{◌-◌, ◌≤◌}
+use Prim.Native.Nat.{◌-◌}
 use native.Mathlib.Omega.{arith}
 use Rattle.rules.specs.Bit.{bit}
 use Rattle.lent.specs.Lists.{zeros}
 use Rattle.display.specs.Texts.{values_of}
 use Rattle.cells.proofs.Filled.{filled, filled_none, filled_more, filled-all}
-use borrow.Author.Rules.{rules}
 use Rattle.display.proofs.line_text.cells_in.Goals as goal
 
 pub loop-i-init : goal.loop-i-init

@@ -1,12 +1,9 @@
 -- `display::line_text::cells_in` meets its contract: after i turns the first i cells are filled in. Assumes nothing.
-use mathlib.Core.Path.{◌≡◌, ap, ◌∙◌}
+use mathlib.Core.Path.{◌≡◌}
 use Prim.Native.Nat.{◌-◌, ◌≤◌}
-use native.Mathlib.Omega.{arith}
 use Rattle.rules.specs.Bit.{bit}
-use Rattle.lent.specs.Lists.{zeros}
 use Rattle.display.specs.Texts.{values_of}
-use Rattle.cells.proofs.Filled.{filled, filled_none, filled_more, filled-all}
-use borrow.Author.Rules.{rules}
+use Rattle.cells.proofs.Filled.{filled}
 use Rattle.display.proofs.line_text.cells_in.Given as goal
 
 abbrev pub invariant-loop-i : goal.invariant-loop-i

@@ -9,7 +9,6 @@ use Rattle.display.specs.Texts.{stepped, line_text}
 use Rattle.display.proofs.Writing.{handed, turned_down}
 use Rattle.display.proofs.Steps.{line-steps, line-open}
 use Rattle.display.proofs.Sizes.{line-length, line-short}
-use borrow.Author.Rules.{rules}
 use Rattle.display.proofs.line_text.write_line.Goals as goal
 
 pub returns-then-refused-ne0 : goal.returns-then-refused-ne0

@@ -8,7 +8,6 @@ use lib.ListN.{length, length-append}
 use Rattle.rules.specs.Tools.{only}
 use Rattle.display.specs.Texts.{digit_text, number_text}
 use Rattle.display.proofs.Writing.{kept, then, room-behind}
-use borrow.Author.Rules.{rules}
 use Rattle.display.proofs.number.number_into.Goals as goal
 
 pub returns : goal.returns

@@ -4,7 +4,6 @@ use Rattle.lent.specs.Lists.{zeros}
 use Rattle.lent.proofs.Laws.{wrote-held}
 use Rattle.display.proofs.Writing.{held_word}
 use Rattle.display.proofs.Sizes.{number_short}
-use borrow.Author.Rules.{rules}
 use Rattle.display.proofs.number.number_label.Goals as goal
 
 pub number_into-len-requires : goal.number_into-len-requires

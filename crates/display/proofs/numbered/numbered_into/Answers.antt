@@ -5,7 +5,6 @@ use lib.ListN.{length-append}
 use Rattle.rules.specs.Tools.{gather}
 use Rattle.display.specs.Texts.{numbered_row, columns_text, numbered_of}
 use Rattle.display.proofs.Writing.{kept, then, room-behind}
-use borrow.Author.Rules.{rules}
 use Rattle.display.proofs.numbered.numbered_into.Goals as goal
 
 pub rows_into-end-requires : goal.rows_into-end-requires

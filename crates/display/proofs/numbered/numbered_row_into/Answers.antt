@@ -7,7 +7,6 @@ use lib.ListN.{length-append}
 use Rattle.text.specs.Bytes.{newline}
 use Rattle.display.specs.Texts.{right_aligned, row_text, numbered_row}
 use Rattle.display.proofs.Writing.{kept, then, room-behind}
-use borrow.Author.Rules.{rules}
 use Rattle.display.proofs.numbered.numbered_row_into.Goals as goal
 
 pub right_into-start-requires : goal.right_into-start-requires

@@ -4,7 +4,6 @@ use lib.Dec.{ltb}
 use Rattle.text.specs.Bytes.{blank}
 use Rattle.display.specs.Texts.{number_text, right_aligned}
 use Rattle.display.proofs.Writing.{kept-before, then, room-behind}
-use borrow.Author.Rules.{rules}
 use Rattle.display.proofs.numbered.right_into.Goals as goal
 
 pub number_into-requires : goal.number_into-requires

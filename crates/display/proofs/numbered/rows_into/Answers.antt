@@ -1,12 +1,9 @@
 -- `display::numbered::rows_into` meets its contract: after k turns the first k rows are written. Assumes nothing.
-use Prim.Native.Nat.{◌-◌, ◌≤◌}
+use Prim.Native.Nat.{◌-◌}
 use native.Mathlib.Omega.{arith}
-use Rattle.rules.specs.Tools.{gather}
-use Rattle.lent.specs.Lists.{Wrote}
-use Rattle.lent.proofs.Laws.{wrote-same, wrote-first, wrote-part, wrote-top}
+use Rattle.lent.proofs.Laws.{wrote-first, wrote-part}
 use Rattle.display.specs.Texts.{numbered_row}
 use Rattle.display.proofs.Writing.{part_room}
-use borrow.Author.Rules.{rules}
 use Rattle.display.proofs.numbered.rows_into.Goals as goal
 
 pub loop-k-init : goal.loop-k-init

@@ -1,12 +1,8 @@
 -- `display::numbered::rows_into` meets its contract: after k turns the first k rows are written. Assumes nothing.
 use Prim.Native.Nat.{◌-◌, ◌≤◌}
-use native.Mathlib.Omega.{arith}
 use Rattle.rules.specs.Tools.{gather}
 use Rattle.lent.specs.Lists.{Wrote}
-use Rattle.lent.proofs.Laws.{wrote-same, wrote-first, wrote-part, wrote-top}
 use Rattle.display.specs.Texts.{numbered_row}
-use Rattle.display.proofs.Writing.{part_room}
-use borrow.Author.Rules.{rules}
 use Rattle.display.proofs.numbered.rows_into.Given as goal
 
 abbrev pub invariant-loop-k : goal.invariant-loop-k

@@ -6,7 +6,6 @@ use Rattle.board.specs.Boards.{cells}
 use Rattle.cells.specs.Cells.{cells_refusal}
 use Rattle.display.specs.Texts.{numbered_of}
 use Rattle.display.proofs.Writing.{handed-as, turned_down}
-use borrow.Author.Rules.{rules}
 use Rattle.display.proofs.numbered.write_numbered.Goals as goal
 
 pub returns-then-refused-ne0 : goal.returns-then-refused-ne0

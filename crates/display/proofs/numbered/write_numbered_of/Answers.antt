@@ -3,7 +3,6 @@ use native.Mathlib.Omega.{arith}
 use Rattle.lent.specs.Lists.{zeros}
 use Rattle.display.proofs.Writing.{handed}
 use Rattle.display.proofs.Sizes.{numbered-length}
-use borrow.Author.Rules.{rules}
 use Rattle.display.proofs.numbered.write_numbered_of.Goals as goal
 
 pub numbered_into-n-requires : goal.numbered_into-n-requires

@@ -1,6 +1,6 @@
 -- `display::points::fits` meets its contract: after i turns the room is what the first i points leave. Assumes nothing.
 use mathlib.Core.Path.{◌≡◌, ap, sym}
-use Prim.Native.Nat.{◌+◌, ◌-◌, ◌≤◌}
+use Prim.Native.Nat.{◌-◌}
 use native.Mathlib.Omega.{arith}
 use lib.ListN.{length, length-append}
 use borrow.Author.Tests.{le-leb, lt-leb}
@@ -8,7 +8,6 @@ use Rattle.rules.specs.Tools.{gather}
 use Rattle.lent.proofs.Laws.{gather_none, gather-more}
 use Rattle.display.specs.Texts.{point_item, points_text}
 use Rattle.display.proofs.Writing.{part-fits}
-use borrow.Author.Rules.{rules}
 use Rattle.display.proofs.points.fits.Goals as goal
 
 pub loop-i-init : goal.loop-i-init

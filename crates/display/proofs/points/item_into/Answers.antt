@@ -3,7 +3,6 @@ use mathlib.Core.List.{[], ◌∷◌}
 use Rattle.text.specs.Bytes.{comma}
 use Rattle.display.specs.Texts.{point_text, item_text}
 use Rattle.display.proofs.Writing.{kept-before, then, room-behind}
-use borrow.Author.Rules.{rules}
 use Rattle.display.proofs.points.item_into.Goals as goal
 
 pub point_into-requires : goal.point_into-requires

@@ -8,7 +8,6 @@ use Rattle.text.specs.Bytes.{capital_a}
 use Rattle.display.specs.Texts.{number_text, point_text}
 use Rattle.display.proofs.Writing.{kept-before, then, room-behind}
 use native.Mathlib.Omega.{arith}
-use borrow.Author.Rules.{rules}
 use borrow.Author.Tests.{lt-ltb, le-ltb}
 use Rattle.display.proofs.points.point_into.Goals as goal
 

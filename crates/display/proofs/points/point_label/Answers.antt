@@ -4,7 +4,6 @@ use Rattle.lent.specs.Lists.{zeros}
 use Rattle.lent.proofs.Laws.{wrote-held}
 use Rattle.display.proofs.Writing.{held_word}
 use Rattle.display.proofs.Sizes.{point-short}
-use borrow.Author.Rules.{rules}
 use Rattle.display.proofs.points.point_label.Goals as goal
 
 pub point_into-len-requires : goal.point_into-len-requires

@@ -1,13 +1,9 @@
 -- `display::points::points_into` meets its contract: after i turns the first i points are written. Assumes nothing.
 use Prim.Native.Nat.{◌-◌, ◌≤◌}
-use native.Mathlib.Omega.{arith}
 use lib.ListN.{length}
 use Rattle.rules.specs.Tools.{gather}
 use Rattle.lent.specs.Lists.{Wrote}
-use Rattle.lent.proofs.Laws.{wrote-same, wrote-first, wrote-part, wrote-top}
-use Rattle.display.specs.Texts.{point_item, points_text}
-use Rattle.display.proofs.Writing.{part_room}
-use borrow.Author.Rules.{rules}
+use Rattle.display.specs.Texts.{point_item}
 use Rattle.display.proofs.points.points_into.Given as goal
 
 abbrev pub invariant-loop-i : goal.invariant-loop-i

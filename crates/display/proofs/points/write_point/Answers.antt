@@ -1,6 +1,5 @@
 -- `display::write_point` meets its contract: the word is handed out. Assumes nothing.
 use Rattle.display.proofs.Writing.{word_held, handed-held}
-use borrow.Author.Rules.{rules}
 use Rattle.display.proofs.points.write_point.Goals as goal
 
 pub returns : goal.returns

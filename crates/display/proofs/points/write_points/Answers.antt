@@ -1,8 +1,6 @@
 -- `display::write_points` meets its contract: refused, or measured and written in place. Assumes nothing.
 use mathlib.Core.Path.{sym, ◌∙◌}
-use borrow.Author.Tests.{leb-true}
 use Rattle.display.proofs.Writing.{turned_down, too_long, in_place}
-use borrow.Author.Rules.{rules}
 use Rattle.display.proofs.points.write_points.Goals as goal
 
 pub returns-then-refused-ne0 : goal.returns-then-refused-ne0

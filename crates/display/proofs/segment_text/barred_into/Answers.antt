@@ -10,7 +10,6 @@ use Rattle.lent.proofs.Laws.{wrote_as}
 use Rattle.text.specs.Bytes.{bar}
 use Rattle.display.specs.Texts.{barred}
 use Rattle.display.proofs.Writing.{kept, kept-before, then, room-behind}
-use borrow.Author.Rules.{rules}
 use Rattle.display.proofs.segment_text.barred_into.Goals as goal
 
 pub returns : goal.returns

@@ -1,15 +1,9 @@
 -- `display::segment_text::segment_into` meets its contract: after k turns the first k cells are written. Assumes nothing.
-use mathlib.Core.Path.{ap}
-use Prim.Native.Nat.{ℕ, ◌-◌, ◌≤◌}
-use native.Mathlib.Omega.{arith}
-use lib.ListN.{length}
+use Prim.Native.Nat.{◌-◌, ◌≤◌}
 use Rattle.rules.specs.Bit.{bit}
 use Rattle.rules.specs.Tools.{gather}
 use Rattle.lent.specs.Lists.{Wrote}
-use Rattle.lent.proofs.Laws.{wrote_as, wrote-same, wrote-first, wrote-part, wrote-top}
-use Rattle.display.specs.Texts.{barred_cell, barred, values_of, segment_text}
-use Rattle.display.proofs.Writing.{part_room}
-use borrow.Author.Rules.{rules}
+use Rattle.display.specs.Texts.{barred_cell, values_of}
 use Rattle.display.proofs.segment_text.segment_into.Given as goal
 
 abbrev pub invariant-loop-k : goal.invariant-loop-k

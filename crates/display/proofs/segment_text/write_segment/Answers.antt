@@ -5,7 +5,6 @@ use Rattle.lent.specs.Lists.{zeros}
 use Rattle.display.specs.Texts.{values_of, text_of_segment}
 use Rattle.display.proofs.Writing.{handed}
 use Rattle.display.proofs.Sizes.{segment-length}
-use borrow.Author.Rules.{rules}
 use Rattle.display.proofs.segment_text.write_segment.Goals as goal
 
 pub segment_into-n-requires : goal.segment_into-n-requires

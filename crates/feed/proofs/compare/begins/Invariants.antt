@@ -1,10 +1,8 @@
 -- `feed::compare::begins` meets its contract: what is left of both lists is compared as the whole. Assumes nothing.
-use mathlib.Core.Path.{◌≡◌, refl, sym, ◌∙◌}
+use mathlib.Core.Path.{◌≡◌}
 use Prim.Native.Nat.{◌≤◌, ◌-◌}
-use native.Mathlib.Omega.{arith}
 use lib.ListN.{length, drop}
 use Rattle.feed.specs.Compare.{begins}
-use Rattle.feed.proofs.Begins.{begins-longer, begins-more, begins-differ, begins-end}
 use Rattle.feed.proofs.compare.begins.Given as goal
 
 abbrev pub invariant-loop-i : goal.invariant-loop-i

@@ -1,7 +1,6 @@
 -- `feed::compare::missing_refusal` meets its contract. Assumes nothing.
 use mathlib.Core.Path.{◌≡◌, sym, ap, ◌∙◌}
 use mathlib.Core.Bool.{Bool, true, false}
-use borrow.Author.Rules.{rules}
 use Rattle.rules.specs.Refusals.{unless}
 use Rattle.feed.specs.Compare.{begins, missing_refusal}
 use Rattle.feed.proofs.compare.missing_refusal.Goals as goal

@@ -2,7 +2,6 @@
 use mathlib.Core.Path.{ap₂, ◌∙◌}
 use Rattle.rules.specs.Refusals.{first}
 use Rattle.feed.specs.Feed.{held_refusal}
-use borrow.Author.Rules.{rules}
 use Rattle.feed.proofs.held.held_refusal.Goals as goal
 
 pub returns : goal.returns

@@ -2,7 +2,6 @@
 use mathlib.Core.Path.{ap, sym, ◌∙◌}
 use native.Mathlib.Omega.{arith}
 use lib.ListN.{length}
-use borrow.Author.Rules.{rules}
 use borrow.Author.Tests.{eq-eqb, ne_eqb}
 use Rattle.rules.specs.Answers.{count_answer}
 use Rattle.rules.specs.declared.answer.CountAnswer.TheVariants.{Refused}
@@ -36,5 +35,5 @@ pub overflow_add-result : goal.overflow_add-result
 overflow_add-result c =
     let a = c.args in
     let (next, _) =
-        held_none a.game a.count a.message (length a.held.now) (sym c.held_refusal-refused.ensures ∙ c.if-refused-ne0.false) in
+    held_none a.game a.count a.message (length a.held.now) (sym c.held_refusal-refused.ensures ∙ c.if-refused-ne0.false) in
     record { fits = omega (arith, next.room) }

@@ -1,14 +1,13 @@
 -- `game::game::read_game` meets its contract: what is left to read, from the present board, gives the report of the whole. Assumes nothing.
-use mathlib.Core.Path.{◌≡◌, sym, ap, ◌∙◌}
+use mathlib.Core.Path.{sym, ap, ◌∙◌}
 use mathlib.Core.List.{List}
-use Prim.Native.Nat.{ℕ, suc, ◌+◌, ◌≤◌, ◌<◌, ◌-◌}
+use Prim.Native.Nat.{ℕ, ◌+◌, ◌<◌, ◌-◌}
 use native.Mathlib.Omega.{arith}
-use lib.ListN.{length, get_or, drop}
-use borrow.Author.Rules.{rules}
+use lib.ListN.{length, get_or}
 use Rattle.rules.specs.declared.Player.TheVariants.{Black}
 use Rattle.lent.specs.Lists.{zeros}
 use Rattle.cells.proofs.Given.{moves-in}
-use Rattle.grid.specs.Lines.{cells_of, Sound, add_on}
+use Rattle.grid.specs.Lines.{add_on}
 use Rattle.grid.proofs.Lines.{sound-zeros, cells-lines-zeros}
 use Rattle.board.specs.Boards.{board_from}
 use Rattle.game.specs.Game.{is_fault, report_from, report_of}

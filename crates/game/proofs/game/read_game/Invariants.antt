@@ -1,20 +1,10 @@
 -- `game::game::read_game` meets its contract: what is left to read, from the present board, gives the report of the whole. Assumes nothing.
-use mathlib.Core.Path.{◌≡◌, sym, ap, ◌∙◌}
-use mathlib.Core.List.{List}
-use Prim.Native.Nat.{ℕ, suc, ◌+◌, ◌≤◌, ◌<◌, ◌-◌}
-use native.Mathlib.Omega.{arith}
-use lib.ListN.{length, get_or, drop}
-use borrow.Author.Rules.{rules}
-use Rattle.rules.specs.declared.Player.TheVariants.{Black}
-use Rattle.lent.specs.Lists.{zeros}
-use Rattle.cells.proofs.Given.{moves-in}
-use Rattle.grid.specs.Lines.{cells_of, Sound, add_on}
-use Rattle.grid.proofs.Lines.{sound-zeros, cells-lines-zeros}
-use Rattle.board.specs.Boards.{board_from}
-use Rattle.game.specs.Game.{is_fault, report_from, report_of}
-use Rattle.game.specs.Answers.{report_with}
+use mathlib.Core.Path.{◌≡◌}
+use Prim.Native.Nat.{suc, ◌≤◌, ◌-◌}
+use lib.ListN.{length, drop}
+use Rattle.grid.specs.Lines.{cells_of, Sound}
+use Rattle.game.specs.Game.{report_from, report_of}
 use Rattle.game.specs.declared.report.Winner.TheVariants as winner
-use Rattle.game.proofs.Read.{lines-kept, lines-moved, stone-sound, report-fault, report-more, report-end}
 use Rattle.game.proofs.game.read_game.Given as goal
 
 abbrev pub invariant-loop-i : goal.invariant-loop-i

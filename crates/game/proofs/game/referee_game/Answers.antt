@@ -1,10 +1,7 @@
 -- `game::game::referee_game` meets its contract: the refusal, or the game as it is read. Assumes nothing.
-use mathlib.Core.Path.{sym, ap, ◌∙◌}
-use Prim.Native.Nat.{ℕ}
-use borrow.Author.Rules.{rules}
+use mathlib.Core.Path.{sym}
 use borrow.Author.Tests.{ne_eqb}
-use Rattle.game.specs.Game.{report_of}
-use Rattle.game.specs.Answers.{refused_report, game_report}
+use Rattle.game.specs.Answers.{game_report}
 use Rattle.game.proofs.game.referee_game.Goals as goal
 
 pub returns-then-refused-ne0 : goal.returns-then-refused-ne0

@@ -3,7 +3,6 @@ use mathlib.Core.Path.{◌∙◌}
 use mathlib.Core.Bool.{true}
 use Rattle.rules.specs.declared.Player.TheVariants.{Black}
 use Rattle.grid.proofs.Placed.{mark-by}
-use borrow.Author.Rules.{rules}
 use Rattle.game.proofs.turn.add_black.Goals as goal
 
 pub returns : goal.returns

@@ -3,7 +3,6 @@ use mathlib.Core.Path.{refl}
 use Rattle.rules.specs.declared.Player.TheVariants.{Black, White}
 use Rattle.grid.specs.Lines.{cells_of}
 use Rattle.game.proofs.Read.{four-seen, may-seen, masks-read}
-use borrow.Author.Rules.{rules}
 use Rattle.game.proofs.turn.black_glance_by.Goals as goal
 
 pub returns : goal.returns

@@ -1,5 +1,4 @@
 -- `game::turn::is_kind_on` meets its contract. Assumes nothing.
-use borrow.Author.Rules.{rules}
 use Rattle.game.proofs.Read.{asked-lines, kind-told, never-refused}
 use Rattle.game.proofs.turn.is_kind_on.Goals as goal
 

@@ -5,7 +5,6 @@ use Rattle.grid.proofs.Lines.{length-cells_of}
 use Rattle.referee.proofs.Asked.{free-is}
 use Rattle.game.specs.Game.{is_fault}
 use Rattle.game.proofs.Read.{reason-told, point-free, five-seen, forbidden-told}
-use borrow.Author.Rules.{rules}
 use Rattle.game.proofs.turn.said_on.Goals as goal
 
 pub returns : goal.returns

@@ -2,7 +2,6 @@
 use Rattle.rules.specs.declared.Player.TheVariants.{Black, White}
 use Rattle.grid.specs.Lines.{cells_of}
 use Rattle.game.proofs.Read.{four-seen, masks-read}
-use borrow.Author.Rules.{rules}
 use Rattle.game.proofs.turn.white_four_by.Goals as goal
 
 pub returns : goal.returns

@@ -1,5 +1,4 @@
 -- `grid::shown::cell_on` meets its contract: the value on the vertical line. Assumes nothing.
-use borrow.Author.Rules.{rules}
 use Rattle.grid.specs.Lines.{cell_of}
 use Rattle.grid.proofs.shown.cell_on.Goals as goal
 

@@ -1,8 +1,6 @@
 -- `grid::shown::cells_on` meets its contract: after i turns the first i cells are filled in. Assumes nothing.
 use mathlib.Core.Path.{◌≡◌, ap, ◌∙◌}
-use Prim.Native.Nat.{◌≤◌, ◌-◌}
 use native.Mathlib.Omega.{arith}
-use borrow.Author.Rules.{rules}
 use Rattle.lent.specs.Lists.{zeros}
 use Rattle.grid.specs.Lines.{cell_of, cells_of}
 use Rattle.cells.proofs.Filled.{filled, filled_none, filled_more, filled-all}

@@ -1,11 +1,8 @@
 -- `grid::shown::cells_on` meets its contract: after i turns the first i cells are filled in. Assumes nothing.
-use mathlib.Core.Path.{◌≡◌, ap, ◌∙◌}
+use mathlib.Core.Path.{◌≡◌}
 use Prim.Native.Nat.{◌≤◌, ◌-◌}
-use native.Mathlib.Omega.{arith}
-use borrow.Author.Rules.{rules}
-use Rattle.lent.specs.Lists.{zeros}
-use Rattle.grid.specs.Lines.{cell_of, cells_of}
-use Rattle.cells.proofs.Filled.{filled, filled_none, filled_more, filled-all}
+use Rattle.grid.specs.Lines.{cell_of}
+use Rattle.cells.proofs.Filled.{filled}
 use Rattle.grid.proofs.shown.cells_on.Given as goal
 
 abbrev pub invariant-loop-i : goal.invariant-loop-i

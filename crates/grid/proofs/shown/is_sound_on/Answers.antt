@@ -1,9 +1,5 @@
 -- `grid::shown::is_sound_on` meets its contract: what it calls says it. Assumes nothing.
-use mathlib.Core.Path.{ap, sym, ◌∙◌}
-use lib.ListN.{length}
-use borrow.Author.Rules.{rules}
 use Rattle.grid.specs.Lines.{is_sound}
-use Rattle.grid.proofs.Lines.{length-cells_of}
 use Rattle.grid.proofs.shown.is_sound_on.Goals as goal
 
 pub returns : goal.returns

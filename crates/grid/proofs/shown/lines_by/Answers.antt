@@ -1,9 +1,6 @@
 -- `grid::shown::lines_by` meets its contract: after i turns they are built of the first i cells. Assumes nothing.
-use mathlib.Core.Path.{◌≡◌, refl, ap, sym, ◌∙◌}
-use mathlib.Core.Logic.{⊎_elim}
-use Prim.Native.Nat.{◌≤◌, ◌-◌}
+use mathlib.Core.Path.{refl, ap, sym, ◌∙◌}
 use native.Mathlib.Omega.{arith}
-use borrow.Author.Rules.{rules}
 use Rattle.rules.specs.Numbers.{player_of, is_colour}
 use Rattle.lent.specs.Lists.{zeros}
 use Rattle.grid.specs.Lines.{built_by}
@@ -23,10 +20,10 @@ loop-i-preserved c =
     let asked = ap is_colour (sym value) ∙ sym c.is_colour.ensures in (
       omega arith,
       elim c.if-is_colour.branch [
-        then-is_colour w ↦
-          w.lines-is ∙ w.add_by.ensures
-          ∙ stone-more a.cells.now a.table.now i c.loop-i.invariant.1 (asked ∙ w.if-is_colour.true) (w.or_white.ensures ∙ ap player_of value)
-          refl
-      | else-is_colour w ↦ w.lines-is ∙ none_more a.cells.now a.table.now i c.loop-i.invariant.1 (asked ∙ w.if-is_colour.false)
+        | then-is_colour w ↦
+            w.lines-is ∙ w.add_by.ensures
+            ∙ stone-more a.cells.now a.table.now i c.loop-i.invariant.1 (asked ∙ w.if-is_colour.true) (w.or_white.ensures ∙ ap player_of value)
+            refl
+        | else-is_colour w ↦ w.lines-is ∙ none_more a.cells.now a.table.now i c.loop-i.invariant.1 (asked ∙ w.if-is_colour.false)
       ],
     )

@@ -1,6 +1,5 @@
 -- `grid::shown::lines_of` meets its contract: by section 3's table. Assumes nothing.
 use mathlib.Core.Path.{◌∙◌}
-use borrow.Author.Rules.{rules}
 use Rattle.grid.proofs.Built.{lines-by}
 use Rattle.grid.proofs.shown.lines_of.Goals as goal
 

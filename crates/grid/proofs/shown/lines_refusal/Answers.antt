@@ -1,6 +1,5 @@
 -- `grid::shown::lines_refusal` meets its contract: what it calls says it. Assumes nothing.
 use Rattle.grid.specs.Lines.{lines_refusal}
-use borrow.Author.Rules.{rules}
 use Rattle.grid.proofs.shown.lines_refusal.Goals as goal
 
 pub returns : goal.returns

@@ -1,10 +1,8 @@
 -- `grid::shown::same_lines` meets its contract: the entries below i are the same. Assumes nothing.
 use mathlib.Core.Path.{◌≡◌}
-use Prim.Native.Nat.{ℕ, ◌≤◌, ◌<◌, ◌-◌}
 use native.Mathlib.Omega.{arith}
-use lib.ListN.{length, get_or}
+use lib.ListN.{length}
 use borrow.Author.Rules.{rules}
-use borrow.Author.Count.{below_more}
 use Rattle.grid.proofs.Same.{same_at, same-differ}
 use Rattle.grid.proofs.shown.same_lines.Goals as goal
 

@@ -1,11 +1,7 @@
 -- `grid::shown::same_lines` meets its contract: the entries below i are the same. Assumes nothing.
 use mathlib.Core.Path.{◌≡◌}
 use Prim.Native.Nat.{ℕ, ◌≤◌, ◌<◌, ◌-◌}
-use native.Mathlib.Omega.{arith}
-use lib.ListN.{length, get_or}
-use borrow.Author.Rules.{rules}
-use borrow.Author.Count.{below_more}
-use Rattle.grid.proofs.Same.{same_at, same-differ}
+use lib.ListN.{get_or}
 use Rattle.grid.proofs.shown.same_lines.Given as goal
 
 abbrev pub invariant-loop-i : goal.invariant-loop-i

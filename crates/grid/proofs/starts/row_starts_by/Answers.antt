@@ -1,7 +1,6 @@
 -- `grid::starts::row_starts_by` meets its contract: one mask for each direction. Assumes nothing.
 use Rattle.rules.specs.Tools.{tab}
 use Rattle.grid.specs.Lines.{starts_by}
-use borrow.Author.Rules.{rules}
 use Rattle.grid.proofs.starts.row_starts_by.Goals as goal
 
 pub returns : goal.returns

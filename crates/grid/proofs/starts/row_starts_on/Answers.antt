@@ -1,6 +1,5 @@
 -- `grid::starts::row_starts_on` meets its contract: by section 3's table. Assumes nothing.
 use mathlib.Core.Path.{◌∙◌}
-use borrow.Author.Rules.{rules}
 use Rattle.grid.proofs.Placed.{starts_by_lem}
 use Rattle.grid.proofs.starts.row_starts_on.Goals as goal
 

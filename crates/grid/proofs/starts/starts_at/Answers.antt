@@ -1,6 +1,5 @@
 -- `grid::starts::starts_at` meets its contract: the rows of the line of the address. Assumes nothing.
 use Rattle.grid.specs.Lines.{starts_at}
-use borrow.Author.Rules.{rules}
 use Rattle.grid.proofs.starts.starts_at.Goals as goal
 
 pub returns-then-a : goal.returns-then-a

@@ -1,6 +1,5 @@
 -- `grid::store::add_by` meets its contract: four bits set, one after the other. Assumes nothing.
 use Rattle.grid.specs.Lines.{mark_by}
-use borrow.Author.Rules.{rules}
 use Rattle.grid.proofs.store.add_by.Goals as goal
 
 pub returns : goal.returns

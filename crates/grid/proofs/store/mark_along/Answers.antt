@@ -1,6 +1,4 @@
 -- `grid::store::mark_along` meets its contract: one bit of the entry that the address and the player name. Assumes nothing.
-use native.Mathlib.Omega.{arith}
-use borrow.Author.Rules.{rules}
 use Rattle.grid.proofs.Placed.{entry-by, marked_by, not-marked-by}
 use Rattle.grid.proofs.store.mark_along.Goals as goal
 

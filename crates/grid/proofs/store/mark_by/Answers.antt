@@ -1,6 +1,5 @@
 -- `grid::store::mark_by` meets its contract: four bits set or cleared, one after the other. Assumes nothing.
 use Rattle.grid.specs.Lines.{mark_by}
-use borrow.Author.Rules.{rules}
 use Rattle.grid.proofs.store.mark_by.Goals as goal
 
 pub returns : goal.returns

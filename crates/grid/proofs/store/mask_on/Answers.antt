@@ -1,7 +1,6 @@
 -- `grid::store::mask_on` meets its contract: the entry of the key and the player. Assumes nothing.
 use borrow.Author.Tests.{lt-ltb, le-ltb}
 use Rattle.grid.specs.Lines.{mask_on}
-use borrow.Author.Rules.{rules}
 use Rattle.grid.proofs.store.mask_on.Goals as goal
 
 pub returns-then-key-ge72 : goal.returns-then-key-ge72

@@ -1,6 +1,5 @@
 -- `grid::store::write_along` meets its contract: the address tells whether there is a line, and which. Assumes nothing.
 use Rattle.grid.proofs.Placed.{place-fits, place-write, nowhere-write, by-addresses}
-use borrow.Author.Rules.{rules}
 use Rattle.grid.proofs.store.write_along.Goals as goal
 
 pub write_line-requires : goal.write_line-requires

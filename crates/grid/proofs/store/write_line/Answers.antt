@@ -1,6 +1,5 @@
 -- `grid::store::write_line` meets its contract: two bits are set or cleared. Assumes nothing.
 use Rattle.grid.specs.Lines.{write_line}
-use borrow.Author.Rules.{rules}
 use Rattle.grid.proofs.store.write_line.Goals as goal
 
 pub returns : goal.returns

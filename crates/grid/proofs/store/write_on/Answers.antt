@@ -1,7 +1,5 @@
 -- `grid::store::write_on` meets its contract: four updates, one after the other. Assumes nothing.
 use Rattle.grid.specs.Lines.{write_on}
-use native.Mathlib.Omega.{arith}
-use borrow.Author.Rules.{rules}
 use Rattle.grid.proofs.store.write_on.Goals as goal
 
 pub returns : goal.returns

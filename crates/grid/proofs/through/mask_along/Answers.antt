@@ -1,7 +1,5 @@
 -- `grid::through::mask_along` meets its contract: the entry that the address and the player name. Assumes nothing.
-use native.Mathlib.Omega.{arith}
-use borrow.Author.Rules.{rules}
-use Rattle.grid.proofs.Placed.{entry-by, mask-by, no-mask-by}
+use Rattle.grid.proofs.Placed.{entry-by, mask-by}
 use Rattle.grid.proofs.through.mask_along.Goals as goal
 
 pub bounds-lines-k : goal.bounds-lines-k

@@ -1,7 +1,6 @@
 -- `grid::through::masks_by` meets its contract: one mask for each direction. Assumes nothing.
 use Rattle.rules.specs.Tools.{tab}
 use Rattle.grid.specs.Lines.{masks_by}
-use borrow.Author.Rules.{rules}
 use Rattle.grid.proofs.through.masks_by.Goals as goal
 
 pub returns : goal.returns

@@ -1,10 +1,8 @@
 -- `grid::through::stones_along` meets its contract: the entries that the address names for both players. Assumes nothing.
 use mathlib.Core.Path.{ap, ◌∙◌}
-use native.Mathlib.Omega.{arith}
 use Rattle.rules.specs.declared.Player.{Player}
 use Rattle.grid.specs.Lines.{mask_by}
-use Rattle.grid.proofs.Placed.{entry-by, mask-by, no-mask-by}
-use borrow.Author.Rules.{rules}
+use Rattle.grid.proofs.Placed.{entry-by, mask-by}
 use Rattle.grid.proofs.through.stones_along.Goals as goal
 
 pub bounds-lines-k : goal.bounds-lines-k

@@ -1,6 +1,5 @@
 -- `hint::attack::answer_at` meets its contract. Assumes nothing.
-use mathlib.Core.Path.{refl, sym, ◌∙◌}
-use borrow.Author.Rules.{rules}
+use mathlib.Core.Path.{sym, ◌∙◌}
 use Rattle.grid.specs.Lines.{cells_of}
 use Rattle.hint.proofs.Attacks.{answer-ends, answer-no, answer-forces}
 use Rattle.rules.specs.declared.RowKind.TheVariants.{Sword}

@@ -1,33 +1,21 @@
 -- `hint::attack::attack_at` meets its contract: the tests in their order, and the lines as they were. Assumes nothing.
-use mathlib.Core.Path.{◌≡◌, refl, sym, ap, subst, ◌∙◌}
+use mathlib.Core.Path.{refl, sym, ◌∙◌}
 use mathlib.Core.Bool.{true}
-use mathlib.Core.List.{List}
-use native.Mathlib.Omega.{arith}
-use Prim.Native.Nat.{ℕ, ◌<◌}
-use lib.ListN.{get_or}
-use borrow.Author.Tests.{ne_eqb}
-use borrow.Author.Rules.{rules}
-use Rattle.rules.specs.Numbers.{opponent_of}
-use Rattle.rules.specs.Grid.{put}
-use Rattle.rules.specs.declared.Player.{Player}
 use Rattle.rules.specs.declared.RowKind.TheVariants.{Sword, Four}
 use Rattle.rules.proofs.Logic.{true-T}
 use Rattle.grid.specs.Lines.{cells_of}
-use Rattle.grid.proofs.Lines.{length-cells_of, cell-on, empty-cell}
-use Rattle.hint.specs.Seen.{AnswerIs}
+use Rattle.grid.proofs.Lines.{length-cells_of}
 use Rattle.hint.proofs.Asked.{zero-empty}
-use Rattle.hint.proofs.Gaps.{not_on, is-on}
 use Rattle.hint.proofs.OnLines.{some-told, taken-there, free-there, put-sound, put-cells, put_back, empty-is}
 use Rattle.hint.proofs.Attacks.{taken-no, five-ends, no-sword-no, forbidden-no, several-ends, eye-lt, eye-free, answered}
 use Rattle.hint.proofs.attack.attack_at.Goals as goal
 
 pub returns-then-cell_on-ne0 : goal.returns-then-cell_on-ne0
-returns-then-cell_on-ne0 c =
-    (
-      taken-no c.args.side (cells_of c.args.lines.now) c.args.code
-          (taken-there c.args.lines.now c.args.code c.requires.1 c.cell_on.ensures c.if-cell_on-ne0.true),
-      refl,
-    )
+returns-then-cell_on-ne0 c = (
+  taken-no c.args.side (cells_of c.args.lines.now) c.args.code
+      (taken-there c.args.lines.now c.args.code c.requires.1 c.cell_on.ensures c.if-cell_on-ne0.true),
+  refl,
+)
 
 pub returns-then-some_row : goal.returns-then-some_row
 returns-then-some_row c =
@@ -51,14 +39,13 @@ returns-then-not-some_row c =
     )
 
 pub is_forbidden-requires : goal.is_forbidden-requires
-is_forbidden-requires c =
-    (
-      c.requires.0,
-      c.requires.1,
-      free-there c.args.lines.now c.args.code c.requires.1 c.cell_on.ensures
-          c.if-cell_on-ne0.false,
-      c.rows_for-rows.ensures,
-    )
+is_forbidden-requires c = (
+  c.requires.0,
+  c.requires.1,
+  free-there c.args.lines.now c.args.code c.requires.1 c.cell_on.ensures
+      c.if-cell_on-ne0.false,
+  c.rows_for-rows.ensures,
+)
 
 pub returns-then-is_forbidden : goal.returns-then-is_forbidden
 returns-then-is_forbidden c =
@@ -72,18 +59,17 @@ returns-then-is_forbidden c =
     )
 
 pub eyes_by-eyes-requires : goal.eyes_by-eyes-requires
-eyes_by-eyes-requires c =
-    (
-      c.requires.0,
-      c.requires.1,
-      free-there c.args.lines.now c.args.code c.requires.1 c.cell_on.ensures
-          c.if-cell_on-ne0.false,
-      c.requires.2,
-      c.rows_for-rows.ensures.swords,
-      true-T (sym (some-told c.args.side Sword (cells_of c.args.lines.now) c.args.code c.rows_for-rows.ensures.swords
-          c.some_row-2.ensures)
-          ∙ c.if-not-some_row.false),
-    )
+eyes_by-eyes-requires c = (
+  c.requires.0,
+  c.requires.1,
+  free-there c.args.lines.now c.args.code c.requires.1 c.cell_on.ensures
+      c.if-cell_on-ne0.false,
+  c.requires.2,
+  c.rows_for-rows.ensures.swords,
+  true-T (sym (some-told c.args.side Sword (cells_of c.args.lines.now) c.args.code c.rows_for-rows.ensures.swords
+      c.some_row-2.ensures)
+      ∙ c.if-not-some_row.false),
+)
 
 pub returns-then-eyes : goal.returns-then-eyes
 returns-then-eyes c =

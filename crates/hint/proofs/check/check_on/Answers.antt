@@ -1,13 +1,8 @@
 -- `hint::check::check_on` meets its contract: what is left of the list, from the present lines, decides. Assumes nothing.
-use mathlib.Core.Path.{◌≡◌, refl, sym, ◌∙◌}
-use Prim.Native.Nat.{◌-◌, ◌≤◌}
+use mathlib.Core.Path.{sym, ◌∙◌}
+use Prim.Native.Nat.{◌-◌}
 use native.Mathlib.Omega.{arith}
-use lib.ListN.{length, drop}
-use borrow.Author.Rules.{rules}
-use Rattle.grid.specs.Lines.{cells_of, Sound}
-use Rattle.hint.specs.Hint.{reaches_end}
-use Rattle.hint.specs.Seen.{Quiet}
-use Rattle.hint.proofs.Gaps.{not_on, is-on}
+use Rattle.grid.specs.Lines.{cells_of}
 use Rattle.hint.proofs.Checked.{drop_all, none_left}
 use Rattle.hint.proofs.check.check_on.Goals as goal
 

@@ -1,14 +1,10 @@
 -- `hint::check::check_on` meets its contract: what is left of the list, from the present lines, decides. Assumes nothing.
-use mathlib.Core.Path.{◌≡◌, refl, sym, ◌∙◌}
+use mathlib.Core.Path.{◌≡◌}
 use Prim.Native.Nat.{◌-◌, ◌≤◌}
-use native.Mathlib.Omega.{arith}
 use lib.ListN.{length, drop}
-use borrow.Author.Rules.{rules}
 use Rattle.grid.specs.Lines.{cells_of, Sound}
 use Rattle.hint.specs.Hint.{reaches_end}
 use Rattle.hint.specs.Seen.{Quiet}
-use Rattle.hint.proofs.Gaps.{not_on, is-on}
-use Rattle.hint.proofs.Checked.{drop_all, none_left}
 use Rattle.hint.proofs.check.check_on.Given as goal
 
 abbrev pub invariant-loop-at : goal.invariant-loop-at

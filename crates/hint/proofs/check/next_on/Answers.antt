@@ -1,14 +1,11 @@
 -- `hint::check::next_on` meets its contract. Assumes nothing.
-use mathlib.Core.Path.{◌≡◌, ap, sym, ◌∙◌}
-use mathlib.Core.List.{List}
-use Prim.Native.Nat.{ℕ, ◌+◌}
+use mathlib.Core.Path.{ap, sym, ◌∙◌}
+use Prim.Native.Nat.{◌+◌}
 use native.Mathlib.Omega.{arith}
-use lib.ListN.{drop}
-use borrow.Author.Rules.{rules}
 use Rattle.grid.specs.Lines.{cells_of}
 use Rattle.rules.proofs.Logic.{no_true}
 use Rattle.hint.specs.Hint.{reaches_end}
-use Rattle.hint.proofs.Checked.{drop-next, at-no, at-ends, at-forced, next-stop, next-moved, no-point}
+use Rattle.hint.proofs.Checked.{drop-next, at-no, at-ends, at-forced, next-stop, no-point}
 use Rattle.hint.proofs.check.next_on.Goals as goal
 
 pub returns-then-code-ge225 : goal.returns-then-code-ge225

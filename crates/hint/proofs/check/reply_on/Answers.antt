@@ -1,7 +1,5 @@
 -- `hint::check::reply_on` meets its contract. Assumes nothing.
-use mathlib.Core.Path.{sym, ◌∙◌}
 use native.Mathlib.Omega.{arith}
-use borrow.Author.Rules.{rules}
 use Rattle.grid.specs.Lines.{cells_of}
 use Rattle.rules.proofs.Logic.{no_true}
 use Rattle.hint.proofs.Checked.{drop_all, drop-next, forced-nil, forced-other, forced-goes, next-stop, next-goes}

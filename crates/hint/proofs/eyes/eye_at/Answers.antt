@@ -1,8 +1,6 @@
 -- `hint::eyes::eye_at` meets its contract. Assumes nothing.
-use mathlib.Core.Path.{◌∙◌}
 use native.Mathlib.Omega.{arith}
 use Prim.Native.Nat.{◌/◌, ◌%◌}
-use borrow.Author.Rules.{rules}
 use Rattle.grid.proofs.Placed.{by-addresses}
 use Rattle.hint.proofs.OnLines.{eye-found, eye-byte}
 use Rattle.hint.proofs.eyes.eye_at.Goals as goal

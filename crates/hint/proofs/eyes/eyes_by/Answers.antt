@@ -2,11 +2,10 @@
 use mathlib.Core.Path.{sym, ◌∙◌}
 use Prim.Native.Nat.{◌-◌}
 use native.Mathlib.Omega.{arith}
-use borrow.Author.Rules.{rules}
 use Rattle.grid.specs.Lines.{cells_of}
 use Rattle.grid.proofs.Lines.{length-cells_of}
 use Rattle.hint.proofs.Asked.{zero-empty}
-use Rattle.hint.proofs.Gaps.{Agree, first-sword, agree-first, agree-next, several-eyes, one-eye, walk-less}
+use Rattle.hint.proofs.Gaps.{first-sword, agree-first, agree-next, several-eyes, one-eye, walk-less}
 use Rattle.hint.proofs.eyes.eyes_by.Goals as goal
 
 pub eye_at-first-requires : goal.eye_at-first-requires

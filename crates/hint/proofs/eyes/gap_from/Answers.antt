@@ -1,8 +1,7 @@
 -- `hint::eyes::gap_from` meets its contract. Assumes nothing.
 use mathlib.Core.Path.{sym, ◌∙◌}
 use Rattle.rules.specs.Bit.{bit}
-use borrow.Author.Rules.{rules}
-use Rattle.hint.proofs.Gaps.{not_on, is-on, gap-0, gap-1, gap-2, gap-3, gap-4}
+use Rattle.hint.proofs.Gaps.{gap-0, gap-1, gap-2, gap-3, gap-4}
 use Rattle.hint.proofs.eyes.gap_from.Goals as goal
 
 pub returns-then-not-bit_at : goal.returns-then-not-bit_at

@@ -1,10 +1,7 @@
 -- `hint::fives::has_row` meets its contract: the lines passed have no such row. Assumes nothing.
-use mathlib.Core.Path.{◌≡◌, ap, sym, ◌∙◌}
 use mathlib.Core.Bool.{false}
-use Prim.Native.Nat.{ℕ, ◌-◌, ◌≤◌}
+use Prim.Native.Nat.{◌-◌}
 use native.Mathlib.Omega.{arith}
-use borrow.Author.Rules.{rules}
-use Rattle.rules.specs.Tools.{any_below}
 use Rattle.grid.specs.Lines.{cells_of}
 use Rattle.hint.specs.Seen.{row_on_key}
 use Rattle.hint.proofs.Lined.{any_none, any-more, any_found, row-there, row-none}

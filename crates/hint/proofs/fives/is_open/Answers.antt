@@ -1,5 +1,4 @@
 -- `hint::fives::is_open` meets its contract. Assumes nothing.
-use borrow.Author.Rules.{rules}
 use Rattle.grid.specs.Lines.{cells_of}
 use Rattle.grid.proofs.Lines.{length-cells_of}
 use Rattle.hint.proofs.Lined.{open-black, open-white, open_told}

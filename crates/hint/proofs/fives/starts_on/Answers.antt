@@ -1,5 +1,4 @@
 -- `hint::fives::starts_on` meets its contract. Assumes nothing.
-use borrow.Author.Rules.{rules}
 use Rattle.hint.proofs.Lined.{shown-rows}
 use Rattle.hint.proofs.fives.starts_on.Goals as goal
 

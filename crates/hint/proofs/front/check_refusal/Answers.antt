@@ -1,5 +1,4 @@
 -- `hint::front::check_refusal` meets its contract. Assumes nothing.
-use borrow.Author.Rules.{rules}
 use Rattle.hint.specs.Refused.{check_refusal}
 use Rattle.hint.proofs.front.check_refusal.Goals as goal
 

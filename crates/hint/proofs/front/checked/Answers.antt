@@ -1,15 +1,12 @@
 -- `hint::front::checked` meets its contract. Assumes nothing.
-use mathlib.Core.Path.{sym, ap, subst, ◌∙◌}
+use mathlib.Core.Path.{ap, ◌∙◌}
 use mathlib.Core.Bool.{◌&&◌, not}
 use mathlib.Core.List.{List}
 use Prim.Native.Nat.{ℕ}
-use borrow.Author.Rules.{rules}
 use Rattle.grid.specs.Lines.{cells_of}
 use Rattle.rules.specs.Numbers.{opponent_of}
 use Rattle.rules.specs.Tools.{any_below}
-use Rattle.hint.specs.Hint.{goes_on, completes, reaches_end, acceptable}
-use Rattle.hint.specs.Seen.{Quiet}
-use Rattle.hint.proofs.Gaps.{not_on, is-on}
+use Rattle.hint.specs.Hint.{goes_on, completes, reaches_end}
 use Rattle.hint.proofs.Checked.{shut_none, open-quiet, open-checked}
 use Rattle.hint.proofs.Fronts.{lines-sound, lines-cells}
 use Rattle.hint.proofs.front.checked.Goals as goal

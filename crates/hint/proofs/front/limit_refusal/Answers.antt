@@ -1,5 +1,4 @@
 -- `hint::front::limit_refusal` meets its contract. Assumes nothing.
-use borrow.Author.Rules.{rules}
 use Rattle.hint.proofs.Fronts.{limit-none, limit-told}
 use Rattle.hint.proofs.front.limit_refusal.Goals as goal
 

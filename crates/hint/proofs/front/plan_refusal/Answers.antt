@@ -1,5 +1,4 @@
 -- `hint::front::plan_refusal` meets its contract. Assumes nothing.
-use borrow.Author.Rules.{rules}
 use Rattle.hint.specs.Refused.{plan_refusal}
 use Rattle.hint.proofs.front.plan_refusal.Goals as goal
 

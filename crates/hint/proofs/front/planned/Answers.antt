@@ -1,19 +1,16 @@
 -- `hint::front::planned` meets its contract. Assumes nothing.
-use mathlib.Core.Path.{refl, sym, ap, subst, ◌∙◌}
+use mathlib.Core.Path.{sym, ap, ◌∙◌}
 use mathlib.Core.Bool.{◌&&◌, not}
-use mathlib.Core.List.{List, []}
+use mathlib.Core.List.{List}
 use native.Mathlib.Omega.{arith}
 use lib.ListN.{length}
 use lib.Seq.{sets}
 use Prim.Native.Nat.{ℕ}
-use borrow.Author.Rules.{rules}
 use Rattle.grid.specs.Lines.{cells_of}
 use Rattle.rules.specs.Numbers.{opponent_of}
 use Rattle.rules.specs.Tools.{any_below}
-use Rattle.lent.specs.Lists.{zeros}
 use Rattle.hint.specs.Hint.{goes_on, completes}
 use Rattle.hint.specs.Planner.{plan_from, plan_of}
-use Rattle.hint.proofs.Gaps.{not_on, is-on}
 use Rattle.hint.proofs.Checked.{open-on, open-quiet}
 use Rattle.hint.proofs.Searched.{shut-plan, open-plan, plan-fits}
 use Rattle.hint.proofs.Fronts.{lines-sound, lines-cells, plan-held, zeros-11}

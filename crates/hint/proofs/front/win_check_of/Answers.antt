@@ -1,7 +1,5 @@
 -- `hint::front::win_check_of` meets its contract. Assumes nothing.
 use mathlib.Core.Path.{sym, ap, ◌∙◌}
-use mathlib.Core.Bool.{Bool}
-use borrow.Author.Rules.{rules}
 use Rattle.rules.specs.Numbers.{player_of}
 use Rattle.rules.specs.declared.Player.{Player}
 use Rattle.rules.proofs.Refusals.{tested, not_tested}

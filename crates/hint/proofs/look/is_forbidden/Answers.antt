@@ -1,9 +1,8 @@
 -- `hint::look::is_forbidden` meets its contract: section 5's tests in their order. Assumes nothing.
 use mathlib.Core.Path.{sym, ◌∙◌}
-use borrow.Author.Rules.{rules}
 use Rattle.grid.specs.Lines.{cells_of}
 use Rattle.grid.proofs.Lines.{length-cells_of}
-use Rattle.hint.proofs.Asked.{white-free, empty-zero, five-free, over-kind, fours-kind, asked-kind, none-kind}
+use Rattle.hint.proofs.Asked.{empty-zero, five-free, over-kind, fours-kind, none-kind}
 use Rattle.hint.proofs.look.is_forbidden.Goals as goal
 
 pub returns-then-some_row : goal.returns-then-some_row

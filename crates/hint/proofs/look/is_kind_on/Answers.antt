@@ -1,5 +1,4 @@
 -- `hint::look::is_kind_on` meets its contract. Assumes nothing.
-use borrow.Author.Rules.{rules}
 use Rattle.hint.proofs.Asked.{asked-lines, kind-told, never-refused}
 use Rattle.hint.proofs.look.is_kind_on.Goals as goal
 

@@ -1,10 +1,7 @@
 -- `hint::look::rows_for` meets its contract. Assumes nothing.
 use mathlib.Core.Path.{◌∙◌, sym, ap, subst}
 use mathlib.Core.Bool.{Bool}
-use mathlib.Core.List.{List}
-use borrow.Author.Rules.{rules}
 use Rattle.rules.specs.Numbers.{opponent_of}
-use Rattle.rules.specs.declared.Player.{Player}
 use Rattle.near.specs.Rows.{RowsAre, seen}
 use Rattle.grid.specs.Lines.{cells_of, masks_through}
 use Rattle.grid.proofs.Placed.{masks-by}

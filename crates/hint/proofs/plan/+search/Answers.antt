@@ -1,10 +1,9 @@
 -- The three functions of the search meet their contracts. What falls at each call is three times the attacks left, and a little: `plan_on` 2,
 -- `attack_on` 1, `forced_on` 0. Assumes nothing.
 use mathlib.Core.Path.{◌≡◌, refl, ap, sym, subst, ◌∙◌}
-use mathlib.Core.List.{List, []}
-use Prim.Native.Nat.{ℕ, ◌+◌, ◌-◌, ◌*◌, ◌≤◌, ◌<◌}
+use mathlib.Core.List.{List}
+use Prim.Native.Nat.{ℕ, ◌+◌, ◌-◌, ◌<◌}
 use native.Mathlib.Omega.{arith}
-use borrow.Author.Rules.{rules}
 use lib.ListN.{length, set}
 use lib.Seq.{sets}
 use Rattle.grid.specs.Lines.{cells_of, Sound}
@@ -16,8 +15,7 @@ use Rattle.hint.proofs.Checked.{at-forced, is-legal, both-sound, both-cells, bot
 use Rattle.hint.proofs.Searched.{gives, nil-of, line-no, line-end, line-forced, line-last, nothing-behind, two-longer, two-before}
 use Rattle.hint.proofs.Marks.{covers-both, skip-to}
 use Rattle.hint.proofs.Searched.{plan-zero, plan-step, first-none, first_more, first-here, plan-short}
-use borrow.Fn.Kinds.{In}
-use borrow.Fn.PlainCycle.{Measures, is, falls, and}
+use borrow.Fn.PlainCycle.{is}
 use Rattle.hint.proofs.plan.+search.Goals as goal
 
 pub attack_on-forced_on-requires : goal.attack_on-forced_on-requires

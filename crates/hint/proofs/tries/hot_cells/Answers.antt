@@ -1,7 +1,6 @@
 -- `hint::tries::hot_cells` meets its contract. Assumes nothing.
 use Rattle.hint.specs.Seen.{hot_cell}
 use Rattle.rules.proofs.Bits.{mask-or}
-use borrow.Author.Rules.{rules}
 use Rattle.hint.proofs.tries.hot_cells.Goals as goal
 
 pub returns : goal.returns

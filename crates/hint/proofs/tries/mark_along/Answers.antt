@@ -2,7 +2,6 @@
 use Rattle.grid.specs.Lines.{cells_of}
 use Rattle.grid.proofs.Placed.{by-addresses, place-fits}
 use Rattle.hint.proofs.Marks.{kept_same, along-line, along-none}
-use borrow.Author.Rules.{rules}
 use Rattle.hint.proofs.tries.mark_along.Goals as goal
 
 pub mark_line-requires : goal.mark_line-requires

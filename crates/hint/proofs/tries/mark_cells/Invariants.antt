@@ -1,11 +1,7 @@
 -- `hint::tries::mark_cells` meets its contract. Assumes nothing.
-use borrow.Author.Rules.{rules}
-use mathlib.Core.Path.{◌≡◌, subst}
-use Prim.Native.Nat.{ℕ, ◌-◌, ◌≤◌}
-use native.Mathlib.Omega.{arith}
+use Prim.Native.Nat.{◌-◌, ◌≤◌}
 use Rattle.rules.specs.Bit.{bit}
 use Rattle.hint.specs.Seen.{Kept, MarkedCells}
-use Rattle.hint.proofs.Marks.{kept_same, kept_then, cells-none, cells-more}
 use Rattle.hint.proofs.tries.mark_cells.Given as goal
 
 abbrev pub invariant-loop-j : goal.invariant-loop-j

@@ -5,7 +5,6 @@ use Rattle.rules.specs.Bit.{bit}
 use Rattle.rules.proofs.Bits.{bit-none}
 use Rattle.rules.proofs.Logic.{along}
 use Rattle.hint.proofs.Marks.{kept_same, line_marked}
-use borrow.Author.Rules.{rules}
 use Rattle.hint.proofs.tries.mark_line.Goals as goal
 
 pub returns-then-cells-ne0 : goal.returns-then-cells-ne0

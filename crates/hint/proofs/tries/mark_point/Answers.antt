@@ -1,13 +1,11 @@
 -- `hint::tries::mark_point` meets its contract. Assumes nothing.
 use mathlib.Core.Path.{ap, sym, subst}
 use Prim.Native.Nat.{ℕ, ◌/◌}
-use native.Mathlib.Omega.{arith}
 use lib.Dec.{T}
 use lib.ListN.{set}
 use mathlib.Core.List.{List}
 use Rattle.hint.specs.Seen.{marked, Kept}
-use Rattle.hint.proofs.Marks.{kept_same, mark-kept, mark-here}
-use borrow.Author.Rules.{rules}
+use Rattle.hint.proofs.Marks.{mark-kept, mark-here}
 use Rattle.hint.proofs.tries.mark_point.Goals as goal
 
 pub returns-then-x-lt15 : goal.returns-then-x-lt15

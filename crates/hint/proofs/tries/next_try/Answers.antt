@@ -1,13 +1,6 @@
 -- `hint::tries::next_try` meets its contract. Assumes nothing.
-use borrow.Author.Rules.{rules}
-use mathlib.Core.Path.{◌≡◌}
-use Prim.Native.Nat.{ℕ, ◌+◌, ◌-◌, ◌%◌, ◌≤◌, ◌<◌}
+use Prim.Native.Nat.{◌+◌, ◌-◌, ◌%◌}
 use native.Mathlib.Omega.{arith}
-use lib.Dec.{T}
-use lib.ListN.{get_or}
-use Rattle.rules.specs.Grid.{is_empty}
-use Rattle.grid.specs.Lines.{cells_of}
-use Rattle.hint.specs.Seen.{marked}
 use mathlib.Core.Bool.{false}
 use Rattle.hint.proofs.Marks.{none-to, not_back}
 use Rattle.hint.proofs.tries.next_try.Goals as goal

@@ -1,15 +1,12 @@
 -- `hint::tries::next_try` meets its contract. Assumes nothing.
-use borrow.Author.Rules.{rules}
 use mathlib.Core.Path.{◌≡◌}
-use Prim.Native.Nat.{ℕ, ◌+◌, ◌-◌, ◌%◌, ◌≤◌, ◌<◌}
-use native.Mathlib.Omega.{arith}
+use Prim.Native.Nat.{ℕ, ◌-◌, ◌≤◌, ◌<◌}
 use lib.Dec.{T}
 use lib.ListN.{get_or}
 use Rattle.rules.specs.Grid.{is_empty}
 use Rattle.grid.specs.Lines.{cells_of}
 use Rattle.hint.specs.Seen.{marked}
 use mathlib.Core.Bool.{false}
-use Rattle.hint.proofs.Marks.{none-to, not_back}
 use Rattle.hint.proofs.tries.next_try.Given as goal
 
 abbrev pub invariant-loop-p : goal.invariant-loop-p

@@ -1,10 +1,9 @@
 -- `hint::tries::tries_of` meets its contract. Assumes nothing.
-use mathlib.Core.Path.{◌≡◌, refl, subst, ◌∙◌}
-use Prim.Native.Nat.{ℕ, ◌-◌, ◌≤◌}
+use mathlib.Core.Path.{◌≡◌, subst}
+use Prim.Native.Nat.{ℕ, ◌-◌}
 use native.Mathlib.Omega.{arith}
-use lib.ListN.{length}
 use Rattle.grid.specs.Lines.{cells_of}
-use Rattle.hint.proofs.Marks.{Keyed, keyed-none, keyed-more, keyed-covers}
+use Rattle.hint.proofs.Marks.{Keyed, keyed-covers}
 use Rattle.hint.proofs.tries.tries_of.Goals as goal
 
 pub returns : goal.returns

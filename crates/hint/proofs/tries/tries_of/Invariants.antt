@@ -1,10 +1,9 @@
 -- `hint::tries::tries_of` meets its contract. Assumes nothing.
-use mathlib.Core.Path.{◌≡◌, refl, subst, ◌∙◌}
-use Prim.Native.Nat.{ℕ, ◌-◌, ◌≤◌}
-use native.Mathlib.Omega.{arith}
+use mathlib.Core.Path.{◌≡◌}
+use Prim.Native.Nat.{◌-◌, ◌≤◌}
 use lib.ListN.{length}
 use Rattle.grid.specs.Lines.{cells_of}
-use Rattle.hint.proofs.Marks.{Keyed, keyed-none, keyed-more, keyed-covers}
+use Rattle.hint.proofs.Marks.{Keyed}
 use Rattle.hint.proofs.tries.tries_of.Given as goal
 
 abbrev pub invariant-loop-key : goal.invariant-loop-key

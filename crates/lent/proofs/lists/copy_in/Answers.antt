@@ -1,11 +1,9 @@
 -- `lent::lists::copy_in` meets its contract. The loop's invariant: the first i bytes are stored. Assumes nothing.
-use mathlib.Core.Path.{◌≡◌, refl, ap, ◌∙◌}
+use mathlib.Core.Path.{ap, ◌∙◌}
 use mathlib.Core.List.{List}
-use Prim.Native.Nat.{ℕ, ◌+◌, ◌-◌, ◌≤◌}
+use Prim.Native.Nat.{ℕ, ◌+◌}
 use native.Mathlib.Omega.{arith}
-use lib.ListN.{length, get_or, take, set}
-use lib.Seq.{sets, length-sets}
-use borrow.Author.Rules.{rules}
+use lib.ListN.{get_or, set}
 use Rattle.lent.proofs.Laws.{sets_more}
 use Rattle.lent.proofs.lists.copy_in.Goals as goal
 

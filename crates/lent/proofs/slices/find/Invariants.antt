@@ -1,11 +1,8 @@
 -- `lent::slices::find` meets its contract: no byte below i is the one looked for. Assumes nothing.
-use mathlib.Core.Path.{◌≡◌, sym, ◌∙◌}
+use mathlib.Core.Path.{◌≡◌}
 use Prim.Native.Nat.{◌+◌, ◌≤◌, ◌-◌}
-use native.Mathlib.Omega.{arith}
 use lib.ListN.{length, drop}
-use borrow.Author.Tests.{eq-eqb, ne_eqb}
 use Rattle.lent.specs.Slices.{find_at}
-use Rattle.lent.proofs.Found.{first-hit, first_step, first-end}
 use Rattle.lent.proofs.slices.find.Given as goal
 
 abbrev pub invariant-loop-i : goal.invariant-loop-i

@@ -1,6 +1,4 @@
 -- `line::bits::count_bits` meets its contract. Assumes nothing.
-use native.Mathlib.Omega.{arith}
-use lib.Count.{ones-le}
 use Rattle.rules.proofs.Bits.{count_ones}
 use Rattle.masks.proofs.Windows.{below}
 use Rattle.line.proofs.bits.count_bits.Goals as goal

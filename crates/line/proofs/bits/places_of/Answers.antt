@@ -1,12 +1,9 @@
 -- `line::bits::places_of` meets its contract: after j turns the set bits below j are collected. Assumes nothing.
 use mathlib.Core.List.{[], ◌∷◌}
-use Prim.Native.Nat.{◌-◌, ◌≤◌}
 use native.Mathlib.Omega.{arith}
-use borrow.Author.Rules.{rules}
-use Rattle.rules.specs.Tools.{gather}
 use Rattle.rules.specs.Bit.{bit}
-use Rattle.lent.specs.Lists.{zeros, Wrote}
-use Rattle.lent.proofs.Laws.{wrote-start, wrote-length, gather-step, gather-end}
+use Rattle.lent.specs.Lists.{zeros}
+use Rattle.lent.proofs.Laws.{wrote-start, gather-step, gather-end}
 use Rattle.line.specs.Lists.{bit_item, bit_list}
 use Rattle.line.proofs.Lines.{bits-short}
 use Rattle.line.proofs.bits.places_of.Goals as goal

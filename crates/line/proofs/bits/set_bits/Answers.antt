@@ -1,6 +1,5 @@
 -- `line::set_bits` meets its contract: the bits are collected, then written out or refused. Assumes nothing.
 use mathlib.Core.Path.{ap₂, ◌∙◌}
-use borrow.Author.Rules.{rules}
 use Rattle.rules.specs.Bit.{bit}
 use Rattle.rules.specs.Answers.{number_answer}
 use Rattle.lent.proofs.Laws.{list-end}

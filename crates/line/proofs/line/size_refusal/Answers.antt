@@ -1,6 +1,5 @@
 -- `line::line::size_refusal` meets its contract: its arms are the cases of the definition. Assumes nothing.
 use mathlib.Core.Path.{◌∙◌}
-use borrow.Author.Rules.{rules}
 use Rattle.line.proofs.Lines.{size_small, size-large}
 use Rattle.line.proofs.line.size_refusal.Goals as goal
 

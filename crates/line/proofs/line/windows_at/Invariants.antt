@@ -1,14 +1,9 @@
 -- `line::line::windows_at` meets its contract: after j turns the starts below j are collected with their segments. Assumes nothing.
-use mathlib.Core.List.{[], ◌∷◌}
 use Prim.Native.Nat.{◌-◌, ◌≤◌}
-use native.Mathlib.Omega.{arith}
-use borrow.Author.Rules.{rules}
 use Rattle.rules.specs.Tools.{gather}
 use Rattle.rules.specs.Bit.{bit}
 use Rattle.lent.specs.Lists.{zeros, Wrote}
-use Rattle.lent.proofs.Laws.{wrote-start, wrote-length, gather-step, gather-end}
-use Rattle.line.specs.Lists.{window_item, window_list}
-use Rattle.line.proofs.Lines.{windows-short}
+use Rattle.line.specs.Lists.{window_item}
 use Rattle.line.proofs.line.windows_at.Given as goal
 
 abbrev pub invariant-loop-j : goal.invariant-loop-j

@@ -1,6 +1,5 @@
 -- `lists::codes::code_at` meets its contract: a cell on its line is a point of the board. Assumes nothing.
 use native.Mathlib.Omega.{arith}
-use borrow.Author.Rules.{rules}
 use Rattle.rules.proofs.Address.{point-lt}
 use Rattle.lists.proofs.codes.code_at.Goals as goal
 

@@ -5,7 +5,6 @@ use Rattle.rules.specs.declared.RowKind.TheVariants.{Four}
 use Rattle.grid.specs.Lines.{cells_of}
 use Rattle.grid.proofs.Placed.{by-addresses, starts-at}
 use Rattle.lists.proofs.Shown.{point-eyes, no-eyes}
-use borrow.Author.Rules.{rules}
 use Rattle.lists.proofs.codes.eyes_along.Goals as goal
 
 pub returns-then-a : goal.returns-then-a

@@ -1,11 +1,9 @@
 -- `lists::codes::four_eyes` meets its contract: after d turns the lines of the first d directions are done. Assumes nothing.
-use Prim.Native.Nat.{◌-◌, ◌≤◌}
+use Prim.Native.Nat.{◌-◌}
 use native.Mathlib.Omega.{arith}
-use borrow.Author.Rules.{rules}
-use Rattle.rules.specs.Tools.{gather}
-use Rattle.rules.specs.Grid.{four_eyes, eyes_in}
+use Rattle.rules.specs.Grid.{four_eyes}
 use Rattle.grid.specs.Lines.{cells_of}
-use Rattle.lent.specs.Lists.{zeros, Wrote}
+use Rattle.lent.specs.Lists.{zeros}
 use Rattle.lent.proofs.Laws.{wrote-start, wrote-length, wrote-part}
 use Rattle.lists.proofs.Kept.{eyes-short}
 use Rattle.cells.proofs.Kept.{parts-place, parts-end}

@@ -1,15 +1,12 @@
 -- `lists::codes::keep_cells` meets its contract: after j turns the cells below j are looked at. Assumes nothing.
 use mathlib.Core.List.{[], ◌∷◌}
-use Prim.Native.Nat.{◌-◌, ◌≤◌}
+use Prim.Native.Nat.{◌-◌}
 use native.Mathlib.Omega.{arith}
-use borrow.Author.Rules.{rules}
-use Rattle.rules.specs.Tools.{gather}
 use Rattle.rules.specs.Bit.{bit}
 use Rattle.rules.specs.Point.{line_size, point_at}
 use Rattle.rules.proofs.Address.{size-le}
-use Rattle.lent.specs.Lists.{Wrote}
-use Rattle.lent.proofs.Laws.{wrote-same, wrote-first, wrote-step, wrote-top, short}
-use Rattle.lists.specs.Lists.{cell_item, cell_list}
+use Rattle.lent.proofs.Laws.{wrote-first, wrote-step, wrote-top, short}
+use Rattle.lists.specs.Lists.{cell_list}
 use Rattle.lists.proofs.codes.keep_cells.Goals as goal
 
 pub loop-j-init : goal.loop-j-init

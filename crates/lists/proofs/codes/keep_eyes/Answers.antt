@@ -7,7 +7,6 @@ use Rattle.grid.specs.Lines.{cells_of}
 use Rattle.lent.proofs.Laws.{wrote_as}
 use Rattle.lists.specs.Lists.{cell_list}
 use Rattle.lists.proofs.Shown.{eye-list}
-use borrow.Author.Rules.{rules}
 use Rattle.lists.proofs.codes.keep_eyes.Goals as goal
 
 pub keep_cells-requires : goal.keep_cells-requires

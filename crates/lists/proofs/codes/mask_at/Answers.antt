@@ -3,7 +3,6 @@ use mathlib.Core.Path.{sym, ◌∙◌}
 use native.Mathlib.Omega.{arith}
 use Rattle.rules.specs.Point.{key_point}
 use Rattle.lists.proofs.Masked.{mask-small, mask-cell}
-use borrow.Author.Rules.{rules}
 use Rattle.lists.proofs.codes.mask_at.Goals as goal
 
 pub overflow_add-j : goal.overflow_add-j

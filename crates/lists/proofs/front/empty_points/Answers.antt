@@ -4,7 +4,6 @@ use Rattle.rules.specs.Grid.{empty_points}
 use Rattle.cells.specs.Cells.{cells_refusal}
 use Rattle.lent.proofs.Laws.{turned_down}
 use Rattle.lists.proofs.Open.{asked-list, cells-asked}
-use borrow.Author.Rules.{rules}
 use Rattle.lists.proofs.front.empty_points.Goals as goal
 
 pub returns-then-refused-ne0 : goal.returns-then-refused-ne0

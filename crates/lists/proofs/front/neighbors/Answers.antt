@@ -6,7 +6,6 @@ use Rattle.rules.specs.Grid.{neighbours}
 use Rattle.cells.specs.Cells.{cells_neighbours_refusal}
 use Rattle.lent.proofs.Laws.{turned_down}
 use Rattle.lists.proofs.Open.{asked-list, near-turned, near-asked}
-use borrow.Author.Rules.{rules}
 use Rattle.lists.proofs.front.neighbors.Goals as goal
 
 pub returns-then-refused-ne0 : goal.returns-then-refused-ne0

@@ -7,7 +7,6 @@ use Rattle.rules.specs.Grid.{stones_of}
 use Rattle.cells.specs.Cells.{cells_stones_refusal}
 use Rattle.lent.proofs.Laws.{turned_down}
 use Rattle.lists.proofs.Open.{asked-list, stones-turned, stones-asked}
-use borrow.Author.Rules.{rules}
 use Rattle.lists.proofs.front.stones.Goals as goal
 
 pub returns-then-refused-ne0 : goal.returns-then-refused-ne0

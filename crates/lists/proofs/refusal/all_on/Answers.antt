@@ -1,9 +1,8 @@
 -- `lists::refusal::all_on` meets its contract: after k turns the bits below k are tested. Assumes nothing.
-use mathlib.Core.Path.{◌≡◌, refl, ap, ap₂, ◌∙◌}
+use mathlib.Core.Path.{refl, ap₂, ◌∙◌}
 use mathlib.Core.Bool.{Bool, ◌&&◌}
-use Prim.Native.Nat.{ℕ, ◌-◌, ◌≤◌}
+use Prim.Native.Nat.{◌-◌}
 use native.Mathlib.Omega.{arith}
-use borrow.Author.Rules.{rules}
 use Rattle.rules.specs.Tools.{all_below}
 use Rattle.rules.proofs.Logic.{all-step}
 use Rattle.lists.specs.Lists.{mask_cell}

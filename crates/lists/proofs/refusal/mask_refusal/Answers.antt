@@ -1,6 +1,5 @@
 -- `lists::refusal::mask_refusal` meets its contract: what it calls says it. Assumes nothing.
 use Rattle.lists.specs.Lists.{mask_refusal}
-use borrow.Author.Rules.{rules}
 use Rattle.lists.proofs.refusal.mask_refusal.Goals as goal
 
 pub returns : goal.returns

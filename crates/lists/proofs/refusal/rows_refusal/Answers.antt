@@ -1,6 +1,5 @@
 -- `lists::refusal::rows_refusal` meets its contract: what it calls says it. Assumes nothing.
 use Rattle.lists.specs.Lists.{rows_refusal}
-use borrow.Author.Rules.{rules}
 use Rattle.lists.proofs.refusal.rows_refusal.Goals as goal
 
 pub returns : goal.returns

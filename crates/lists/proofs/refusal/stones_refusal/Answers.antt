@@ -1,6 +1,5 @@
 -- `lists::refusal::stones_refusal` meets its contract: what it calls says it. Assumes nothing.
 use Rattle.lists.specs.Lists.{stones_refusal}
-use borrow.Author.Rules.{rules}
 use Rattle.lists.proofs.refusal.stones_refusal.Goals as goal
 
 pub returns : goal.returns

@@ -1,12 +1,9 @@
 -- `lists::row_bytes::all_rows` meets its contract: after as many turns the lines of the keys below are done. Assumes nothing.
-use Prim.Native.Nat.{◌-◌, ◌≤◌}
+use Prim.Native.Nat.{◌-◌}
 use native.Mathlib.Omega.{arith}
-use borrow.Author.Rules.{rules}
-use Rattle.rules.specs.Tools.{gather}
 use Rattle.rules.specs.Point.{key_dir, key_no}
-use Rattle.rules.specs.Grid.{rows_of, key_rows}
-use Rattle.grid.specs.Lines.{cells_of}
-use Rattle.lent.specs.Lists.{zeros, Wrote}
+use Rattle.rules.specs.Grid.{rows_of}
+use Rattle.lent.specs.Lists.{zeros}
 use Rattle.lent.proofs.Laws.{wrote-start, wrote-length, wrote-part}
 use Rattle.lists.proofs.Kept.{rows_short}
 use Rattle.cells.proofs.Kept.{parts-place, parts-end}

@@ -1,7 +1,6 @@
 -- `lists::row_bytes::five_from` meets its contract. Assumes nothing.
 use Rattle.masks.proofs.Windows.{below}
 use Rattle.lists.proofs.Shown.{five-some, five-none}
-use borrow.Author.Rules.{rules}
 use Rattle.lists.proofs.row_bytes.five_from.Goals as goal
 
 pub returns-then-j-lt16 : goal.returns-then-j-lt16

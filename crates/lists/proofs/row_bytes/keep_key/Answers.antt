@@ -1,7 +1,6 @@
 -- `lists::row_bytes::keep_key` meets its contract: the starts on a sound line are those of its rows. Assumes nothing.
 use Rattle.lent.proofs.Laws.{wrote_as}
 use Rattle.lists.proofs.Shown.{key-rows}
-use borrow.Author.Rules.{rules}
 use Rattle.lists.proofs.row_bytes.keep_key.Goals as goal
 
 pub returns : goal.returns

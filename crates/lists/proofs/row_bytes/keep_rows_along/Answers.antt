@@ -5,7 +5,6 @@ use Rattle.grid.specs.Lines.{cells_of}
 use Rattle.grid.proofs.Placed.{place-fits, by-addresses, starts-at}
 use Rattle.lent.proofs.Laws.{wrote_none, wrote_as}
 use Rattle.lists.proofs.Shown.{point-rows, no_rows}
-use borrow.Author.Rules.{rules}
 use Rattle.lists.proofs.row_bytes.keep_rows_along.Goals as goal
 
 pub keep_rows-requires : goal.keep_rows-requires

@@ -1,12 +1,9 @@
 -- `lists::row_bytes::rows_through` meets its contract: after d turns the lines of the first d directions are done. Assumes nothing.
-use Prim.Native.Nat.{◌-◌, ◌≤◌}
+use Prim.Native.Nat.{◌-◌}
 use native.Mathlib.Omega.{arith}
-use borrow.Author.Rules.{rules}
-use Rattle.rules.specs.Tools.{gather}
 use Rattle.rules.specs.Point.{line_no}
-use Rattle.rules.specs.Grid.{rows_on_point, rows_in}
-use Rattle.grid.specs.Lines.{cells_of}
-use Rattle.lent.specs.Lists.{zeros, Wrote}
+use Rattle.rules.specs.Grid.{rows_on_point}
+use Rattle.lent.specs.Lists.{zeros}
 use Rattle.lent.proofs.Laws.{wrote-start, wrote-length, wrote-part}
 use Rattle.lists.proofs.Kept.{rows_short}
 use Rattle.cells.proofs.Kept.{parts-place, parts-end}

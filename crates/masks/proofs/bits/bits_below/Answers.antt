@@ -1,5 +1,4 @@
 -- `masks::bits_below` meets its contract: what is not from the end on. Assumes nothing.
-use borrow.Author.Rules.{rules}
 use Rattle.rules.proofs.Bits.{mask-cong}
 use Rattle.rules.proofs.Logic.{not-leb}
 use Rattle.masks.proofs.Windows.{masks}

@@ -1,5 +1,4 @@
 -- `masks::bits_from` meets its contract. Assumes nothing.
-use borrow.Author.Rules.{rules}
 use Rattle.masks.proofs.Windows.{from_some, from-none}
 use Rattle.masks.proofs.bits.bits_from.Goals as goal
 

@@ -1,5 +1,4 @@
 -- `masks::set_bit` meets its contract, bit by bit. Assumes nothing.
-use borrow.Author.Rules.{rules}
 use Rattle.rules.proofs.Bits.{mask-ext, bit-or, bit-and}
 use Rattle.masks.proofs.Windows.{below, one16, not-one16, past, set_on, set-off}
 use Rattle.masks.proofs.bits.set_bit.Goals as goal

@@ -1,11 +1,8 @@
 -- `mending::kept::first_ones` meets its contract: the codes before place i are kept. Assumes nothing.
-use mathlib.Core.Path.{◌≡◌, refl}
+use mathlib.Core.Path.{◌≡◌}
 use Prim.Native.Nat.{◌≤◌, ◌-◌}
-use native.Mathlib.Omega.{arith}
 use lib.ListN.{length, take, drop}
-use borrow.Author.Rules.{rules}
 use Rattle.mending.specs.Mending.{once_from, once_of}
-use Rattle.mending.proofs.Moves.{seen-repeat, seen_more, seen_end}
 use Rattle.mending.proofs.kept.first_ones.Given as goal
 
 abbrev pub invariant-loop-i : goal.invariant-loop-i

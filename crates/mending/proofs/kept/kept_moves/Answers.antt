@@ -1,5 +1,4 @@
 -- `mending::kept::kept_moves` meets its contract: the moves are kept in a fresh buffer. Assumes nothing.
-use borrow.Author.Rules.{rules}
 use Rattle.lent.specs.Lists.{zeros}
 use Rattle.mending.proofs.Moves.{kept-given}
 use Rattle.mending.proofs.kept.kept_moves.Goals as goal

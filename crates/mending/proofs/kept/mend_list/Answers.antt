@@ -2,7 +2,6 @@
 use mathlib.Core.Path.{ap, sym, ◌∙◌}
 use native.Mathlib.Omega.{arith}
 use lib.ListN.{length}
-use borrow.Author.Rules.{rules}
 use Rattle.mending.proofs.Moves.{text-found, repeat-found, reader-found, moves-short, all_short}
 use Rattle.mending.proofs.kept.mend_list.Goals as goal
 

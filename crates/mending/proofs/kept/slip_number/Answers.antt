@@ -1,5 +1,4 @@
 -- `mending::kept::slip_number` meets its contract: its ways are the cases of the definition. Assumes nothing.
-use borrow.Author.Rules.{rules}
 use borrow.Author.Tests.{eq-eqb, ne_eqb}
 use Rattle.mending.specs.Mending.{number_of_slip}
 use Rattle.mending.proofs.kept.slip_number.Goals as goal

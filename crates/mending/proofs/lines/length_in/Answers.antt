@@ -1,5 +1,4 @@
 -- `mending::lines::length_in` meets its contract: its arms are the cases of the definition. Assumes nothing.
-use borrow.Author.Rules.{rules}
 use Rattle.mending.specs.Mending.{length_in}
 use Rattle.mending.proofs.lines.length_in.Goals as goal
 

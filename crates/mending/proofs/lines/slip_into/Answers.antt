@@ -1,7 +1,6 @@
 -- `mending::lines::slip_into` meets its contract: the number, a space, the reason and byte 10, one behind the other. Assumes nothing.
 use mathlib.Core.List.{[], ◌∷◌}
 use native.Mathlib.Omega.{arith}
-use borrow.Author.Rules.{rules}
 use Rattle.lent.proofs.Laws.{wrote-same}
 use Rattle.text.specs.Bytes.{newline, blank}
 use Rattle.display.proofs.Writing.{then, put}

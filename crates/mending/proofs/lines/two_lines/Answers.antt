@@ -1,7 +1,6 @@
 -- `mending::lines::two_lines` meets its contract: the list, byte 10 and the second line, one behind the other. Assumes nothing.
 use mathlib.Core.List.{[], ◌∷◌}
 use native.Mathlib.Omega.{arith}
-use borrow.Author.Rules.{rules}
 use Rattle.lent.specs.Lists.{zeros}
 use Rattle.lent.proofs.Laws.{wrote-same, wrote-held, length-zeros}
 use Rattle.text.specs.Bytes.{newline}

@@ -1,8 +1,6 @@
 -- `near::eyes::first_gap` meets its contract. Assumes nothing.
 use borrow.Author.Rules.{rules}
-use mathlib.Core.Path.{sym}
-use native.Mathlib.Omega.{arith}
-use Rattle.near.proofs.Gap.{gap-none, gap-low, gap-small}
+use Rattle.near.proofs.Gap.{gap-none, gap-low}
 use Rattle.near.proofs.eyes.first_gap.Goals as goal
 
 pub returns-then-j-ge16 : goal.returns-then-j-ge16

@@ -2,7 +2,6 @@
 use mathlib.Core.Path.{refl}
 use mathlib.Core.Bool.{true}
 use Rattle.near.proofs.Lanes.{rows_are, four-told, may-told}
-use borrow.Author.Rules.{rules}
 use Rattle.near.proofs.glance.black_glance_near.Goals as goal
 
 pub returns : goal.returns

@@ -2,7 +2,6 @@
 use mathlib.Core.Path.{refl}
 use mathlib.Core.Bool.{false}
 use Rattle.near.proofs.Lanes.{rows_are, four-told}
-use borrow.Author.Rules.{rules}
 use Rattle.near.proofs.glance.white_four_near.Goals as goal
 
 pub returns : goal.returns

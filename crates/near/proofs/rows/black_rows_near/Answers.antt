@@ -2,7 +2,6 @@
 use mathlib.Core.Path.{refl}
 use mathlib.Core.Bool.{true}
 use Rattle.near.proofs.Lanes.{rows_are}
-use borrow.Author.Rules.{rules}
 use Rattle.near.proofs.rows.black_rows_near.Goals as goal
 
 pub returns : goal.returns

@@ -2,7 +2,6 @@
 use mathlib.Core.Path.{◌∙◌, ap}
 use Rattle.near.specs.Places.{reaching}
 use Rattle.near.proofs.Places.{reached}
-use borrow.Author.Rules.{rules}
 use Rattle.near.proofs.rows.rows_from.Goals as goal
 
 pub returns : goal.returns

@@ -1,7 +1,6 @@
 -- `near::rows::rows_near` meets its contract. Assumes nothing.
 use mathlib.Core.Path.{refl}
 use Rattle.near.proofs.Lanes.{rows_are}
-use borrow.Author.Rules.{rules}
 use Rattle.near.proofs.rows.rows_near.Goals as goal
 
 pub returns : goal.returns

@@ -2,7 +2,6 @@
 use borrow.Author.Rules.{rules}
 use mathlib.Core.Path.{◌∙◌, ap}
 use Prim.Native.Nat.{ℕ}
-use native.Mathlib.Omega.{arith}
 use Rattle.rules.specs.Bit.{bit}
 use Rattle.rules.specs.Grid.{starts_of, numbered}
 use Rattle.rules.specs.Forbidden.{apart}

@@ -1,11 +1,6 @@
 -- `near::starts::next_start` meets its contract. Assumes nothing.
 use borrow.Author.Rules.{rules}
-use mathlib.Core.Path.{◌∙◌, ap, sym}
-use Prim.Native.Nat.{ℕ, ◌/◌, ◌^◌}
-use native.Mathlib.Omega.{arith}
-use lib.Count.{trailing_le}
-use Rattle.rules.specs.Bit.{bit}
-use Rattle.rules.specs.Grid.{starts_of, numbered, next_from}
+use mathlib.Core.Path.{◌∙◌, sym}
 use Rattle.near.proofs.Next.{next-zero, next_low, next-mask}
 use Rattle.rules.proofs.Numbered.{next_past}
 use Rattle.near.proofs.starts.next_start.Goals as goal

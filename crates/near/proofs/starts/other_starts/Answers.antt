@@ -1,5 +1,4 @@
 -- `near::starts::other_starts` meets its contract. Assumes nothing.
-use borrow.Author.Rules.{rules}
 use Rattle.near.proofs.Chosen.{left_out}
 use Rattle.near.proofs.starts.other_starts.Goals as goal
 

@@ -1,5 +1,4 @@
 -- `near::starts::word_of` meets its contract. Assumes nothing.
-use borrow.Author.Rules.{rules}
 use Rattle.near.proofs.Places.{named-places}
 use mathlib.Core.Path.{◌∙◌, ap}
 use Prim.Native.Nat.{ℕ}

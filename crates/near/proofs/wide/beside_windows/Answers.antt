@@ -1,5 +1,4 @@
 -- `near::wide::beside_windows` meets its contract. Assumes nothing.
-use mathlib.Core.Path.{◌∙◌}
 use Rattle.rules.specs.Line.{beside}
 use Rattle.rules.proofs.Bits.{mask-ext, mask-none}
 use Rattle.masks.proofs.Windows.{bits, and-on, and-off}

@@ -1,14 +1,6 @@
 -- `near::wide::windows_of` meets its contract. Assumes nothing.
-use borrow.Author.Rules.{rules}
-use mathlib.Core.Path.{◌≡◌, ap, ap₂, ◌∙◌}
-use mathlib.Core.Bool.{Bool, not, ◌&&◌, ◌||◌}
-use Prim.Native.Nat.{ℕ, ◌-◌, ◌^◌}
-use lib.Dec.{eqb}
-use lib.Bits.{bit_and}
-use Rattle.rules.specs.Bit.{bit, mask_of}
-use Rattle.rules.specs.Line.{free, count, beside, dead}
-use Rattle.rules.proofs.Tables.{table3}
-use Rattle.rules.proofs.Bits.{mask-and, mask-not, mask-cong}
+use Rattle.rules.specs.Bit.{bit}
+use Rattle.rules.specs.Line.{count}
 use Rattle.rules.proofs.Windows.{count-le}
 use Rattle.masks.proofs.Held.{holds-two, holds-three, holds-four}
 use Rattle.near.specs.Windows.{alive_with, free_with}

@@ -1,5 +1,4 @@
 -- `near::words::outside` meets its contract. Assumes nothing.
-use borrow.Author.Rules.{rules}
 use Rattle.near.specs.Places.{past_end}
 use Rattle.near.proofs.Places.{joined-masks}
 use lib.Dec.{leb}

@@ -1,5 +1,4 @@
 -- `near::words::parted` meets its contract. Assumes nothing.
-use borrow.Author.Rules.{rules}
 use Rattle.near.proofs.Places.{parted-masks}
 use Rattle.near.proofs.words.parted.Goals as goal
 

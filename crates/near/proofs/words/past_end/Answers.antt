@@ -1,5 +1,4 @@
 -- `near::words::past_end` meets its contract. Assumes nothing.
-use borrow.Author.Rules.{rules}
 use native.Mathlib.Omega.{arith}
 use Rattle.rules.proofs.Address.{size-le}
 use Rattle.masks.proofs.Windows.{from_some}

@@ -1,5 +1,4 @@
 -- `near::words::spots` meets its contract. Assumes nothing.
-use borrow.Author.Rules.{rules}
 use lib.Dec.{eqb}
 use Rattle.rules.specs.Point.{cell_no}
 use Rattle.near.specs.Places.{spot_at}

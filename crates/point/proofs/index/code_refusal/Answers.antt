@@ -1,5 +1,4 @@
 -- `point::index::code_refusal` meets its contract: what it calls says it. Assumes nothing.
-use borrow.Author.Rules.{rules}
 use Rattle.rules.specs.Refusals.{code_refusal}
 use Rattle.point.proofs.index.code_refusal.Goals as goal
 

@@ -1,5 +1,4 @@
 -- `point::index::direction_refusal` meets its contract: what it calls says it. Assumes nothing.
-use borrow.Author.Rules.{rules}
 use Rattle.rules.specs.Refusals.{direction_refusal}
 use Rattle.point.proofs.index.direction_refusal.Goals as goal
 

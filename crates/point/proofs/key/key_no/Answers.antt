@@ -1,5 +1,4 @@
 -- `point::key::key_no` meets its contract: its arms are the cases of the definition. Assumes nothing.
-use borrow.Author.Rules.{rules}
 use borrow.Author.Tests.{lt-ltb, le-ltb}
 use Rattle.rules.specs.Point.{key_no}
 use Rattle.point.proofs.key.key_no.Goals as goal

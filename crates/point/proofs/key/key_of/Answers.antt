@@ -1,5 +1,4 @@
 -- `point::key::key_of` meets its contract: what it calls says it. Assumes nothing.
-use borrow.Author.Rules.{rules}
 use Rattle.rules.specs.Point.{key_of}
 use Rattle.point.proofs.key.key_of.Goals as goal
 

@@ -1,5 +1,4 @@
 -- `point::key::key_refusal` meets its contract: what it calls says it. Assumes nothing.
-use borrow.Author.Rules.{rules}
 use Rattle.rules.specs.Refusals.{key_refusal}
 use Rattle.point.proofs.key.key_refusal.Goals as goal
 

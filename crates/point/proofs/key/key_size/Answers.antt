@@ -1,5 +1,4 @@
 -- `point::key::key_size` meets its contract: what it calls says it. Assumes nothing.
-use borrow.Author.Rules.{rules}
 use Rattle.rules.specs.Point.{key_size}
 use Rattle.point.proofs.key.key_size.Goals as goal
 

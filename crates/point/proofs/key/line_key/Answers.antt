@@ -1,7 +1,6 @@
 -- `point::key::line_key` meets its contract: the refusal, or the key of a stored line. Assumes nothing.
 use mathlib.Core.Path.{sym, ◌∙◌}
 use native.Mathlib.Omega.{arith}
-use borrow.Author.Rules.{rules}
 use borrow.Author.Tests.{eq-eqb, ne_eqb}
 use Rattle.point.specs.Answers.{key_answer}
 use Rattle.point.proofs.Refused.{line-in, lines-le}

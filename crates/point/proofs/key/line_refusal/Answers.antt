@@ -1,5 +1,4 @@
 -- `point::key::line_refusal` meets its contract: what it calls says it. Assumes nothing.
-use borrow.Author.Rules.{rules}
 use Rattle.rules.specs.Refusals.{line_no_refusal}
 use Rattle.point.proofs.key.line_refusal.Goals as goal
 

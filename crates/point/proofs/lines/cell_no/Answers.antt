@@ -1,5 +1,4 @@
 -- `point::lines::cell_no` meets its contract: what it calls says it. Assumes nothing.
-use borrow.Author.Rules.{rules}
 use Rattle.rules.specs.Point.{cell_no}
 use Rattle.point.proofs.lines.cell_no.Goals as goal
 

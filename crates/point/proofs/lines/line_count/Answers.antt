@@ -1,5 +1,4 @@
 -- `point::lines::line_count` meets its contract: what it calls says it. Assumes nothing.
-use borrow.Author.Rules.{rules}
 use Rattle.rules.specs.Point.{line_count}
 use Rattle.point.proofs.lines.line_count.Goals as goal
 

@@ -1,5 +1,4 @@
 -- `point::lines::line_size` meets its contract: what it calls says it. Assumes nothing.
-use borrow.Author.Rules.{rules}
 use Rattle.rules.specs.Point.{line_size}
 use Rattle.point.proofs.lines.line_size.Goals as goal
 

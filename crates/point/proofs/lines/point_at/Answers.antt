@@ -1,6 +1,5 @@
 -- `point::lines::point_at` meets its contract: its arms are the cases of the definition. Assumes nothing.
 use mathlib.Core.Path.{sym, ◌∙◌}
-use borrow.Author.Rules.{rules}
 use Rattle.rules.specs.Point.{point_at}
 use Rattle.point.proofs.Ways.{by_way_lem}
 use Rattle.point.proofs.lines.point_at.Goals as goal

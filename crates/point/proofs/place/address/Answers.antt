@@ -1,8 +1,7 @@
 -- `point::place::address` meets its contract: the table is the one of section 3's addresses. Assumes nothing.
-use mathlib.Core.Path.{◌≡◌, ap, ◌∙◌}
+use mathlib.Core.Path.{ap, ◌∙◌}
 use mathlib.Core.List.{List}
 use Prim.Native.Nat.{ℕ}
-use borrow.Author.Rules.{rules}
 use Rattle.point.specs.Places.{place_by}
 use Rattle.point.proofs.Stored.{place-by}
 use Rattle.point.proofs.place.address.Goals as goal

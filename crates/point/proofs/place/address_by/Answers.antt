@@ -1,12 +1,9 @@
 -- `point::place::address_by` meets its contract: a point has the place that its entry says. Assumes nothing.
-use mathlib.Core.Path.{◌≡◌, ap, ◌∙◌}
+use mathlib.Core.Path.{ap, ◌∙◌}
 use Prim.Native.Nat.{ℕ, ◌+◌, ◌*◌}
-use native.Mathlib.Omega.{arith}
 use lib.ListN.{get_or}
-use borrow.Author.Rules.{rules}
 use borrow.Author.Tests.{lt-ltb, le-ltb}
 use Rattle.point.specs.Places.{place_by, unpacked}
-use Rattle.point.proofs.Stored.{way-lt}
 use Rattle.point.proofs.place.address_by.Goals as goal
 
 pub returns-then-code-lt225 : goal.returns-then-code-lt225

@@ -1,5 +1,4 @@
 -- `point::place::place_of` meets its contract: an entry below 16 · 72 is unpacked. Assumes nothing.
-use borrow.Author.Rules.{rules}
 use borrow.Author.Tests.{lt-ltb, le-ltb}
 use Rattle.point.specs.Places.{unpacked}
 use Rattle.point.proofs.place.place_of.Goals as goal

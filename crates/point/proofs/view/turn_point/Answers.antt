@@ -1,7 +1,6 @@
 -- `point::view::turn_point` meets its contract: the refusal, or a code that fits. Assumes nothing.
 use mathlib.Core.Path.{sym, ◌∙◌}
 use native.Mathlib.Omega.{arith}
-use borrow.Author.Rules.{rules}
 use borrow.Author.Tests.{eq-eqb, ne_eqb}
 use Rattle.rules.specs.Answers.{number_answer}
 use Rattle.rules.proofs.Refusals.{first-none}

@@ -1,6 +1,5 @@
 -- `point::view::turned` meets its contract: its arms are the views. Assumes nothing.
 use Prim.Native.Nat.{◌/◌, ◌%◌}
-use borrow.Author.Rules.{rules}
 use Rattle.rules.specs.Views.{turn}
 use Rattle.point.proofs.Viewed.{viewed-last}
 use Rattle.point.proofs.view.turned.Goals as goal

@@ -1,5 +1,4 @@
 -- `point::view::view_refusal` meets its contract: what it calls says it. Assumes nothing.
-use borrow.Author.Rules.{rules}
 use Rattle.rules.specs.Refusals.{view_refusal}
 use Rattle.point.proofs.view.view_refusal.Goals as goal
 

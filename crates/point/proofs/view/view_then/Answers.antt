@@ -1,5 +1,4 @@
 -- `point::view::view_then` meets its contract: of two views the table has the view that equals one followed by the other. Assumes nothing.
-use borrow.Author.Rules.{rules}
 use Rattle.point.proofs.Viewed.{then-answered}
 use Rattle.point.proofs.view.view_then.Goals as goal
 

@@ -1,25 +1,17 @@
 -- The six functions of the cycle meet their contracts. What falls at each call is six times the number of empty points, and a little:
 -- on one board `two_real` 6, `open_asked` 5, `is_real` 4, `strict_by` 3, `plain` 2, `trial` 1. Assumes nothing.
-use mathlib.Core.Path.{◌≡◌, refl, ap, sym, subst, ◌∙◌}
+use mathlib.Core.Path.{refl, ap, sym, ◌∙◌}
 use mathlib.Core.List.{List}
 use native.Mathlib.Omega.{arith}
-use lib.Dec.{T}
-use borrow.Author.Rules.{rules}
-use Rattle.rules.specs.Grid.{empties, starts_of, rows_through, numbered}
 use Rattle.rules.specs.Forbidden.{is_real, strict_of, real_double}
-use Rattle.rules.specs.declared.Player.TheVariants.{Black}
-use Rattle.rules.specs.declared.RowKind.TheVariants.{Three}
-use Rattle.rules.proofs.Logic.{true-T}
-use Rattle.grid.specs.Lines.{cells_of, Sound}
-use Rattle.referee.specs.Referee.{plain_by, strict_by, KnownOf}
+use Rattle.grid.specs.Lines.{cells_of}
+use Rattle.referee.specs.Referee.{plain_by, strict_by}
 use Rattle.referee.proofs.RowsSeen.{triable}
 use Rattle.referee.proofs.EyeFound.{eye-small, eye-empty, five-seen, real-seen}
-use Rattle.referee.proofs.Asked.{on-sound, on-cells, on-fewer, on-threes, added, lifted, fewer}
-use Rattle.referee.proofs.Told.{Walked, open-left, left-three, known-settled, one-settled, stays-settled}
+use Rattle.referee.proofs.Asked.{on-sound, on-cells, on-fewer, on-threes, added, lifted}
+use Rattle.referee.proofs.Told.{open-left, left-three, known-settled, one-settled, stays-settled}
 use Rattle.referee.proofs.Told.{next-there, next-further, walk_first, walk-on, walk-done}
-use Prim.Native.Nat.{ℕ, ◌+◌, ◌-◌, ◌*◌, ◌/◌, ◌%◌, ◌<◌}
-use borrow.Fn.Kinds.{In}
-use borrow.Fn.PlainCycle.{Measures, is, falls, and}
+use Prim.Native.Nat.{ℕ, ◌+◌, ◌-◌, ◌/◌, ◌%◌, ◌<◌}
 use Rattle.referee.proofs.cycle.+questions.Goals as goal
 
 pub is_real-rows_on-rows-requires : goal.is_real-rows_on-rows-requires
@@ -121,8 +113,7 @@ plain-returns-then-more_than_one t c =
 pub plain-returns-then-trial : goal.plain-returns-then-trial
 unfolding plain_by
 plain-returns-then-trial t c =
-    let r = c.trial.ensures in
-    (
+    let r = c.trial.ensures in (
       rw (
         sym c.some_row.ensures ∙ c.if-some_row.false,
         sym c.more_than_one.ensures ∙ c.if-more_than_one.false,
@@ -136,8 +127,7 @@ plain-returns-then-trial t c =
 pub plain-returns-else-trial : goal.plain-returns-else-trial
 unfolding plain_by
 plain-returns-else-trial t c =
-    let r = c.trial.ensures in
-    (
+    let r = c.trial.ensures in (
       rw (
         sym c.some_row.ensures ∙ c.if-some_row.false,
         sym c.more_than_one.ensures ∙ c.if-more_than_one.false,
@@ -150,16 +140,15 @@ plain-returns-else-trial t c =
 
 pub plain-returns-else-more_than_one-2 : goal.plain-returns-else-more_than_one-2
 unfolding plain_by
-plain-returns-else-more_than_one-2 t c =
-    (
-      rw (
-        sym c.some_row.ensures ∙ c.if-some_row.false,
-        sym c.more_than_one.ensures ∙ c.if-more_than_one.false,
-        sym c.more_than_one-2.ensures ∙ c.if-more_than_one-2.false,
-      )
-          refl,
+plain-returns-else-more_than_one-2 t c = (
+  rw (
+    sym c.some_row.ensures ∙ c.if-some_row.false,
+    sym c.more_than_one.ensures ∙ c.if-more_than_one.false,
+    sym c.more_than_one-2.ensures ∙ c.if-more_than_one-2.false,
+  )
       refl,
-    )
+  refl,
+)
 
 pub strict_by-returns-then-some_row : goal.strict_by-returns-then-some_row
 unfolding strict_by

@@ -1,6 +1,5 @@
 -- `referee::cycle::strict` meets its contract. Assumes nothing.
 use mathlib.Core.Path.{refl, sym, ◌∙◌}
-use borrow.Author.Rules.{rules}
 use borrow.Author.Tests.{eq-eqb}
 use Rattle.grid.specs.Lines.{cells_of}
 use Rattle.grid.proofs.Lines.{length-cells_of}

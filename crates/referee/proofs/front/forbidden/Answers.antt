@@ -2,7 +2,6 @@
 use mathlib.Core.Path.{sym, ◌∙◌}
 use Rattle.referee.proofs.Ruled.{forbidden-in}
 use Rattle.rules.proofs.Refusals.{ruled, not-ruled}
-use borrow.Author.Rules.{rules}
 use Rattle.referee.proofs.front.forbidden.Goals as goal
 
 pub returns-then-refused-ne0 : goal.returns-then-refused-ne0

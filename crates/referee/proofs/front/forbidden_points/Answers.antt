@@ -1,8 +1,6 @@
 -- `referee::front::forbidden_points` meets its contract: refused, or its cells listed. Assumes nothing.
-use mathlib.Core.Path.{sym, ◌∙◌}
 use Rattle.lent.proofs.Laws.{turned_down}
 use Rattle.grid.proofs.Lines.{cells-cells_of}
-use borrow.Author.Rules.{rules}
 use Rattle.referee.proofs.front.forbidden_points.Goals as goal
 
 pub returns-then-refused-ne0 : goal.returns-then-refused-ne0

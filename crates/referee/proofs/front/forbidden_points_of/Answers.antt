@@ -2,7 +2,6 @@
 use mathlib.Core.Path.{sym, ◌∙◌}
 use Rattle.lent.proofs.Laws.{turned_down}
 use Rattle.cells.proofs.Given.{cells_in}
-use borrow.Author.Rules.{rules}
 use Rattle.referee.proofs.front.forbidden_points_of.Goals as goal
 
 pub returns-then-refused-ne0 : goal.returns-then-refused-ne0

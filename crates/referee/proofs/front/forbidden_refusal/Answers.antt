@@ -1,6 +1,5 @@
 -- `referee::front::forbidden_refusal` meets its contract. Assumes nothing.
 use Rattle.referee.proofs.Ruled.{refused-first, refused-taken}
-use borrow.Author.Rules.{rules}
 use Rattle.referee.proofs.front.forbidden_refusal.Goals as goal
 
 pub returns-then-refused-ne0 : goal.returns-then-refused-ne0

@@ -3,7 +3,6 @@ use mathlib.Core.Path.{sym, ◌∙◌}
 use Rattle.rules.specs.Forbidden.{strict_of}
 use Rattle.rules.proofs.Refusals.{ruled, not-ruled}
 use Rattle.cells.proofs.Given.{cells-at-in}
-use borrow.Author.Rules.{rules}
 use Rattle.referee.proofs.front.forbidden_strict_of.Goals as goal
 
 pub returns-then-refused-ne0 : goal.returns-then-refused-ne0

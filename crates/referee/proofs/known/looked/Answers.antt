@@ -1,12 +1,11 @@
 -- `referee::known::looked` meets its contract. Assumes nothing.
-use mathlib.Core.Path.{◌≡◌, sym, ◌∙◌}
+use mathlib.Core.Path.{sym, ◌∙◌}
 use mathlib.Core.Bool.{true, false}
-use Prim.Native.Nat.{◌/◌, ◌%◌, ◌<◌}
+use Prim.Native.Nat.{◌/◌, ◌%◌}
 use native.Mathlib.Omega.{arith}
 use Rattle.grid.specs.Lines.{cells_of}
 use Rattle.referee.proofs.EyeFound.{eye-small}
 use Rattle.referee.proofs.Told.{known-settled, shut-seen, clear-seen}
-use borrow.Author.Rules.{rules}
 use Rattle.referee.proofs.known.looked.Goals as goal
 
 pub rows_on-rows-requires : goal.rows_on-rows-requires

@@ -1,13 +1,11 @@
 -- `referee::known::looked_at` meets its contract. Assumes nothing.
-use mathlib.Core.Path.{◌≡◌, refl, sym, subst, ◌∙◌}
-use borrow.Author.Rules.{rules}
+use mathlib.Core.Path.{sym, subst}
 use native.Mathlib.Omega.{arith}
 use Prim.Native.Nat.{ℕ, ◌+◌, ◌-◌, ◌<◌}
 use lib.Dec.{T}
 use Rattle.rules.specs.Grid.{starts_of, numbered}
 use Rattle.rules.proofs.Numbered.{next-on}
 use Rattle.grid.specs.Lines.{cells_of}
-use Rattle.referee.specs.Referee.{KnownOf}
 use Rattle.referee.proofs.Told.{known-none, no-starts, three-at, next-there, next-further}
 use Rattle.referee.proofs.known.looked_at.Goals as goal
 
@@ -37,8 +35,7 @@ loop-three-smaller c =
     omega arith
 
 pub loop-three-preserved : goal.loop-three-preserved
-loop-three-preserved c =
-    (
-      c.looked-known.ensures,
-      next-there c.args.threes (c.loop-three.three + 1) c.is_told.result c.next_unless-three.ensures,
-    )
+loop-three-preserved c = (
+  c.looked-known.ensures,
+  next-there c.args.threes (c.loop-three.three + 1) c.is_told.result c.next_unless-three.ensures,
+)

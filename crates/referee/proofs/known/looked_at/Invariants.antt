@@ -1,14 +1,9 @@
 -- `referee::known::looked_at` meets its contract. Assumes nothing.
-use mathlib.Core.Path.{◌≡◌, refl, sym, subst, ◌∙◌}
-use borrow.Author.Rules.{rules}
-use native.Mathlib.Omega.{arith}
-use Prim.Native.Nat.{ℕ, ◌+◌, ◌-◌, ◌<◌}
+use Prim.Native.Nat.{◌-◌, ◌<◌}
 use lib.Dec.{T}
 use Rattle.rules.specs.Grid.{starts_of, numbered}
-use Rattle.rules.proofs.Numbered.{next-on}
 use Rattle.grid.specs.Lines.{cells_of}
 use Rattle.referee.specs.Referee.{KnownOf}
-use Rattle.referee.proofs.Told.{known-none, no-starts, three-at, next-there, next-further}
 use Rattle.referee.proofs.known.looked_at.Given as goal
 
 abbrev pub invariant-loop-three : goal.invariant-loop-three

@@ -1,13 +1,11 @@
 -- `referee::list::asked_pairs` meets its contract: after a turn the points below p are asked, or known to be none. Assumes nothing.
 use mathlib.Core.Path.{◌≡◌, refl, sym, subst, ◌∙◌}
 use mathlib.Core.List.{List}
-use Prim.Native.Nat.{ℕ, ◌-◌, ◌≤◌}
+use Prim.Native.Nat.{ℕ, ◌-◌}
 use native.Mathlib.Omega.{arith}
-use borrow.Author.Rules.{rules}
-use Rattle.rules.specs.Tools.{gather}
 use Rattle.rules.specs.Forbidden.{strict_of, entry, forbidden_list}
 use Rattle.lent.specs.Lists.{zeros, Wrote}
-use Rattle.lent.proofs.Laws.{wrote-start, wrote-length, gather-step, gather-end}
+use Rattle.lent.proofs.Laws.{wrote-start, gather-step, gather-end}
 use Rattle.referee.proofs.Swept.{column-skip}
 use Rattle.rules.proofs.Listed.{pairs-short, entry-is}
 use Rattle.referee.proofs.list.asked_pairs.Goals as goal

@@ -1,5 +1,4 @@
 -- `referee::list::forbidden_pairs` meets its contract. Assumes nothing.
-use borrow.Author.Rules.{rules}
 use mathlib.Core.Path.{refl, subst}
 use mathlib.Core.List.{List}
 use Prim.Native.Nat.{ℕ}
@@ -18,11 +17,10 @@ returns-then-columns-eq0 c =
 
 pub asked_pairs-requires : goal.asked_pairs-requires
 unfolding columns_of
-asked_pairs-requires c =
-    (
-      c.requires,
-      (λ h. lines-wanted c.are_many-built.result c.args.cells.now c.lines_if-lines.ensures h),
-      c.sweep_points-asked.ensures,
-      c.marked_columns-columns.ensures,
-      c.addresses-table.ensures,
-    )
+asked_pairs-requires c = (
+  c.requires,
+  (λ h. lines-wanted c.are_many-built.result c.args.cells.now c.lines_if-lines.ensures h),
+  c.sweep_points-asked.ensures,
+  c.marked_columns-columns.ensures,
+  c.addresses-table.ensures,
+)

@@ -1,5 +1,4 @@
 -- `referee::list::verdict_at` meets its contract. Assumes nothing.
-use borrow.Author.Rules.{rules}
 use mathlib.Core.Path.{refl, sym, ◌∙◌}
 use Rattle.rules.proofs.Logic.{true-T}
 use Rattle.referee.proofs.Asked.{on-lines-of, lines-of-sound}
@@ -11,12 +10,11 @@ strict-requires c =
     (lines-of-sound c.args.cells.now c.args.code c.requires.0 c.requires.1 (c.requires.2 (true-T c.if-built.true)), c.requires.1, c.requires.4)
 
 pub returns-then-built : goal.returns-then-built
-returns-then-built c =
-    (
-      on-lines-of c.args.cells.now c.args.code c.requires.0 c.requires.1 (c.requires.2 (true-T c.if-built.true))
-          c.strict.ensures.0,
-      c.strict.ensures.1,
-    )
+returns-then-built c = (
+  on-lines-of c.args.cells.now c.args.code c.requires.0 c.requires.1 (c.requires.2 (true-T c.if-built.true))
+      c.strict.ensures.0,
+  c.strict.ensures.1,
+)
 
 pub asked_of-requires : goal.asked_of-requires
 asked_of-requires c =

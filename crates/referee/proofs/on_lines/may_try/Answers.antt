@@ -4,7 +4,6 @@ use Rattle.referee.proofs.Asked.{free-is}
 use Rattle.rules.proofs.Refusals.{tested, not_tested}
 use Rattle.board.specs.Boards.{board_with}
 use Rattle.board.proofs.Given.{at_in}
-use borrow.Author.Rules.{rules}
 use Rattle.referee.proofs.on_lines.may_try.Goals as goal
 
 pub returns-then-refused-ne0 : goal.returns-then-refused-ne0

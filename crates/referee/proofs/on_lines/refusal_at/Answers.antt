@@ -1,5 +1,4 @@
 -- `referee::on_lines::refusal_at` meets its contract: what it calls says it. Assumes nothing.
-use borrow.Author.Rules.{rules}
 use Rattle.board.specs.Boards.{refusal_at}
 use Rattle.referee.proofs.on_lines.refusal_at.Goals as goal
 

@@ -3,7 +3,6 @@ use mathlib.Core.Path.{refl, sym, ◌∙◌}
 use Rattle.rules.proofs.Refusals.{ruled, not-ruled}
 use Rattle.board.specs.Boards.{board_with}
 use Rattle.board.proofs.Given.{at_in}
-use borrow.Author.Rules.{rules}
 use Rattle.referee.proofs.on_lines.strict_on.Goals as goal
 
 pub returns-then-refused-ne0 : goal.returns-then-refused-ne0

@@ -1,8 +1,7 @@
 -- `referee::rows::plain_on` meets its contract. Assumes nothing.
-use borrow.Author.Rules.{rules}
 use mathlib.Core.Path.{refl, ◌∙◌}
 use Rattle.grid.specs.Lines.{cells_of}
-use Rattle.referee.proofs.RowsSeen.{plain-is, triable}
+use Rattle.referee.proofs.RowsSeen.{plain-is}
 use Rattle.referee.proofs.rows.plain_on.Goals as goal
 
 pub returns : goal.returns

@@ -1,5 +1,4 @@
 -- `referee::rows::real_on` meets its contract. Assumes nothing.
-use borrow.Author.Rules.{rules}
 use mathlib.Core.Path.{◌∙◌}
 use Rattle.rules.specs.declared.Player.TheVariants.{Black}
 use Rattle.rules.specs.declared.RowKind.TheVariants.{Three}

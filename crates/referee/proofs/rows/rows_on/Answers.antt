@@ -1,8 +1,5 @@
 -- `referee::rows::rows_on` meets its contract. Assumes nothing.
-use borrow.Author.Rules.{rules}
 use mathlib.Core.Path.{◌∙◌, sym, subst}
-use mathlib.Core.List.{List}
-use Prim.Native.Nat.{ℕ}
 use Rattle.rules.specs.declared.Player.TheVariants.{Black, White}
 use Rattle.grid.specs.Lines.{cells_of}
 use Rattle.grid.proofs.Placed.{masks-by}

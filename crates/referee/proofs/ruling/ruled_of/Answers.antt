@@ -1,6 +1,5 @@
 -- `referee::ruling::ruled_of` meets its contract. Assumes nothing.
 use mathlib.Core.Path.{refl, ap, sym, ◌∙◌}
-use borrow.Author.Rules.{rules}
 use Rattle.rules.specs.Grid.{is_empty}
 use Rattle.rules.specs.Forbidden.{strict_of}
 use Rattle.rules.proofs.Logic.{along}

@@ -1,7 +1,6 @@
 -- `referee::ruling::ruling_of` meets its contract. Assumes nothing.
 use mathlib.Core.Path.{ap, sym, ◌∙◌}
 use Prim.Native.Nat.{ℕ}
-use borrow.Author.Rules.{rules}
 use Rattle.rules.specs.Answers.{verdict_answer}
 use Rattle.rules.specs.Forbidden.{strict_of}
 use Rattle.rules.proofs.Refusals.{not-ruled}

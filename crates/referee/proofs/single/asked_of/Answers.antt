@@ -1,5 +1,4 @@
 -- `referee::single::asked_of` meets its contract. Assumes nothing.
-use borrow.Author.Rules.{rules}
 use mathlib.Core.Path.{ap, sym, ◌∙◌}
 use Rattle.rules.specs.Grid.{is_empty}
 use Rattle.rules.proofs.Starts.{twos-are}

@@ -1,5 +1,4 @@
 -- `referee::single::lines_if` meets its contract. Assumes nothing.
-use borrow.Author.Rules.{rules}
 use mathlib.Core.Path.{◌∙◌}
 use Rattle.lent.specs.Lists.{zeros}
 use Rattle.grid.proofs.Built.{lines-by}

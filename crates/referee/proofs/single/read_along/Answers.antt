@@ -2,9 +2,8 @@
 use Prim.Native.Nat.{◌-◌}
 use native.Mathlib.Omega.{arith}
 use lib.ListN.{get_or}
-use borrow.Author.Rules.{rules}
 use mathlib.Core.Path.{refl}
-use Rattle.referee.proofs.Backward.{Read, back-le, long-le, read-start, read-on, read-end, room, halves-le, step_room, stands-lt}
+use Rattle.referee.proofs.Backward.{back-le, read-start, read-on, read-end, room, halves-le, stands-lt}
 use Rattle.referee.proofs.single.read_along.Goals as goal
 
 pub overflow_sub-p : goal.overflow_sub-p

@@ -1,10 +1,6 @@
 -- `referee::single::read_along` meets its contract: the two halves have the stones of the cells from j on. Assumes nothing.
 use Prim.Native.Nat.{◌-◌}
-use native.Mathlib.Omega.{arith}
-use lib.ListN.{get_or}
-use borrow.Author.Rules.{rules}
-use mathlib.Core.Path.{refl}
-use Rattle.referee.proofs.Backward.{Read, back-le, long-le, read-start, read-on, read-end, room, halves-le, step_room, stands-lt}
+use Rattle.referee.proofs.Backward.{Read}
 use Rattle.referee.proofs.single.read_along.Given as goal
 
 abbrev pub invariant-loop-j : goal.invariant-loop-j

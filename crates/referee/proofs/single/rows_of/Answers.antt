@@ -1,5 +1,4 @@
 -- `referee::single::rows_of` meets its contract. Assumes nothing.
-use borrow.Author.Rules.{rules}
 use Rattle.rules.specs.declared.Player.TheVariants.{Black, White}
 use Rattle.referee.proofs.RowsSeen.{rows_seen, masks-four}
 use Rattle.referee.proofs.single.rows_of.Goals as goal

@@ -1,5 +1,4 @@
 -- `referee::single::strict_of` meets its contract. Assumes nothing.
-use borrow.Author.Rules.{rules}
 use mathlib.Core.Path.{sym, ◌∙◌}
 use Rattle.rules.proofs.Verdicts.{quiet_none}
 use Rattle.referee.proofs.RowsSeen.{may-is}

@@ -1,6 +1,6 @@
 -- `referee::thin::is_double_three_in` meets its contract: where a stone may be tried the trial answers, else the refusal or no. Assumes
 -- nothing.
-use mathlib.Core.Path.{◌∙◌, ap, sym}
+use mathlib.Core.Path.{ap}
 use mathlib.Core.Bool.{not}
 use Rattle.rules.proofs.Logic.{true-T}
 use Rattle.referee.proofs.Trial.{may-be-tried, answered, not-tried}

@@ -1,6 +1,5 @@
 -- `referee::thin::is_yes` meets its contract. Assumes nothing.
 use mathlib.Core.Path.{ap, sym}
-use borrow.Author.Rules.{rules}
 use Rattle.referee.specs.Answers.{is_yes}
 use Rattle.referee.proofs.thin.is_yes.Goals as goal
 

@@ -1,5 +1,4 @@
 -- `referee::thin::remove_in` meets its contract: the stone is off the lines, and Black has one less. Assumes nothing.
-use native.Mathlib.Omega.{arith}
 use Rattle.referee.proofs.Trial.{stone-off, black-counted}
 use Rattle.referee.proofs.thin.remove_in.Goals as goal
 

@@ -1,6 +1,5 @@
 -- `renju::answer::mask_word` meets its contract: its arms are the cases of the definition. Assumes nothing.
 use Rattle.renju.specs.Answers.{mask_word}
-use borrow.Author.Rules.{rules}
 use Rattle.renju.proofs.answer.mask_word.Goals as goal
 
 pub returns-in-Is : goal.returns-in-Is

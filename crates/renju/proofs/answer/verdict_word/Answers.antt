@@ -1,7 +1,6 @@
 -- `renju::answer::verdict_word` meets its contract: its arms are the cases of the definition. Assumes nothing.
 use mathlib.Core.Path.{◌∙◌, ap}
 use Rattle.renju.specs.Answers.{word, verdict_word}
-use borrow.Author.Rules.{rules}
 use Rattle.renju.proofs.answer.verdict_word.Goals as goal
 
 pub returns-in-Is : goal.returns-in-Is

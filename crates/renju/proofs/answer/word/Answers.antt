@@ -1,7 +1,6 @@
 -- `renju::answer::word` meets its contract: its ways are the cases of the definition. Assumes nothing.
 use Rattle.renju.specs.Answers.{word}
 use borrow.Author.Tests.{eq-eqb, ne_eqb}
-use borrow.Author.Rules.{rules}
 use Rattle.renju.proofs.answer.word.Goals as goal
 
 pub returns-then-refused-eq0 : goal.returns-then-refused-eq0

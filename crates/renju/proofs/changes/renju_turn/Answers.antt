@@ -1,7 +1,6 @@
 -- `renju::changes::renju_turn` meets its contract: the number of what `cells` lists. Assumes nothing.
 use mathlib.Core.Path.{refl}
 use Rattle.renju.proofs.Words.{answered-count}
-use borrow.Author.Rules.{rules}
 use Rattle.renju.proofs.changes.renju_turn.Goals as goal
 
 pub returns : goal.returns

@@ -2,7 +2,6 @@
 use mathlib.Core.Path.{◌∙◌, ap}
 use Rattle.renju.specs.Answers.{count_word}
 use Rattle.renju.proofs.Words.{count_word_lem}
-use borrow.Author.Rules.{rules}
 use Rattle.renju.proofs.counted.renju_counts.Goals as goal
 
 pub returns : goal.returns

@@ -1,6 +1,5 @@
 -- `renju::depths::depth_word` meets its contract: its arms are the cases of the definition. Assumes nothing.
 use mathlib.Core.Path.{◌∙◌}
-use borrow.Author.Rules.{rules}
 use Rattle.renju.specs.Depths.{depth_word}
 use Rattle.renju.proofs.depths.depth_word.Goals as goal
 

@@ -1,6 +1,5 @@
 -- `renju::depths::renju_depth` meets its contract: depth and verdict of the cells as one number. Assumes nothing.
 use mathlib.Core.Path.{◌∙◌, ap}
-use borrow.Author.Rules.{rules}
 use Rattle.renju.specs.Depths.{depth_word}
 use Rattle.renju.proofs.Paired.{depth-word}
 use Rattle.renju.proofs.depths.renju_depth.Goals as goal

@@ -2,7 +2,6 @@
 use mathlib.Core.Path.{◌∙◌, ap}
 use Rattle.renju.specs.Answers.{number_word}
 use Rattle.renju.proofs.Words.{number_word_lem}
-use borrow.Author.Rules.{rules}
 use Rattle.renju.proofs.feeds.renju_feed_missing.Goals as goal
 
 pub returns : goal.returns

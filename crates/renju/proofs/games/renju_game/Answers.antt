@@ -2,7 +2,6 @@
 use mathlib.Core.Path.{ap, ◌∙◌}
 use mathlib.Core.List.{List}
 use Prim.Native.Nat.{ℕ}
-use borrow.Author.Rules.{rules}
 use Rattle.cells.specs.Cells.{codes_refusal, moves_cells}
 use Rattle.cells.specs.Answers.{cells_answer}
 use Rattle.renju.proofs.Handed.{report-out}

@@ -2,7 +2,6 @@
 use mathlib.Core.Path.{◌∙◌, ap}
 use Rattle.renju.specs.Hints.{test_word}
 use Rattle.renju.proofs.Hinted.{test_word_lem}
-use borrow.Author.Rules.{rules}
 use Rattle.renju.proofs.hints.renju_win_check.Goals as goal
 
 pub returns : goal.returns

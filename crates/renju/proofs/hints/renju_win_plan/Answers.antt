@@ -1,7 +1,6 @@
 -- `renju::hints::renju_win_plan` meets its contract: the number of what `hint` lists. Assumes nothing.
 use mathlib.Core.Path.{refl}
 use Rattle.renju.proofs.Words.{answered-count}
-use borrow.Author.Rules.{rules}
 use Rattle.renju.proofs.hints.renju_win_plan.Goals as goal
 
 pub returns : goal.returns

@@ -2,7 +2,6 @@
 use mathlib.Core.Path.{◌∙◌, ap}
 use Rattle.renju.specs.Answers.{word}
 use Rattle.renju.specs.Hints.{test_word}
-use borrow.Author.Rules.{rules}
 use Rattle.renju.proofs.hints.test_word.Goals as goal
 
 pub returns-in-Is : goal.returns-in-Is

@@ -1,7 +1,6 @@
 -- `renju::listed::renju_forbidden_points` meets its contract: what the referee answers of the cells, as a word. Assumes nothing.
 use mathlib.Core.Path.{refl}
 use Rattle.renju.proofs.Words.{answered-count}
-use borrow.Author.Rules.{rules}
 use Rattle.renju.proofs.listed.renju_forbidden_points.Goals as goal
 
 pub returns : goal.returns

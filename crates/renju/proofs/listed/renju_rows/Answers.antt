@@ -5,7 +5,6 @@ use Rattle.rules.specs.Grid.{rows_of}
 use Rattle.lists.specs.Lists.{rows_refusal}
 use Rattle.renju.proofs.Words.{refused-list, answered-count}
 use Rattle.renju.proofs.Asked.{refused-asked, asked, same-cells}
-use borrow.Author.Rules.{rules}
 use Rattle.renju.proofs.listed.renju_rows.Goals as goal
 
 pub returns-then-made-ne0 : goal.returns-then-made-ne0

@@ -7,7 +7,6 @@ use Rattle.rules.specs.Grid.{rows_on_point}
 use Rattle.board.specs.Boards.{rows_on_refusal}
 use Rattle.renju.proofs.Words.{refused-list, answered-count}
 use Rattle.renju.proofs.Asked.{refused-asked, asked, same-cells}
-use borrow.Author.Rules.{rules}
 use Rattle.renju.proofs.listed.renju_rows_on.Goals as goal
 
 pub returns-then-made-ne0 : goal.returns-then-made-ne0

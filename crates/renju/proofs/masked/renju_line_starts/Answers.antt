@@ -2,7 +2,6 @@
 use mathlib.Core.Path.{◌∙◌, ap}
 use Rattle.renju.specs.Answers.{mask_word}
 use Rattle.renju.proofs.Words.{mask_word_lem}
-use borrow.Author.Rules.{rules}
 use Rattle.renju.proofs.masked.renju_line_starts.Goals as goal
 
 pub returns : goal.returns

@@ -1,7 +1,6 @@
 -- `renju::mended::renju_mend` meets its contract: the number of what `mending` writes. Assumes nothing.
 use mathlib.Core.Path.{refl}
 use Rattle.renju.proofs.Words.{answered-count}
-use borrow.Author.Rules.{rules}
 use Rattle.renju.proofs.mended.renju_mend.Goals as goal
 
 pub returns : goal.returns

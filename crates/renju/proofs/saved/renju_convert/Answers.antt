@@ -1,7 +1,6 @@
 -- `renju::saved::renju_convert` meets its contract: the number of what `diagrams` writes. Assumes nothing.
 use mathlib.Core.Path.{refl}
 use Rattle.renju.proofs.Words.{answered-count}
-use borrow.Author.Rules.{rules}
 use Rattle.renju.proofs.saved.renju_convert.Goals as goal
 
 pub returns : goal.returns

@@ -6,7 +6,6 @@ use lib.ListN.{length}
 use Rattle.text.specs.Reading.{diagram_text_refusal, diagram_text_cells}
 use Rattle.text.proofs.Sound.{diagram-text-ok, read_out}
 use Rattle.renju.specs.Answers.{word, list_word}
-use borrow.Author.Rules.{rules}
 use Rattle.renju.proofs.saved.renju_read_diagram.Goals as goal
 
 pub returns : goal.returns

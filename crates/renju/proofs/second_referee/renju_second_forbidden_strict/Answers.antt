@@ -2,7 +2,6 @@
 use mathlib.Core.Path.{◌∙◌, ap}
 use Rattle.renju.specs.Answers.{verdict_word}
 use Rattle.renju.proofs.Words.{verdict-word}
-use borrow.Author.Rules.{rules}
 use Rattle.renju.proofs.second_referee.renju_second_forbidden_strict.Goals as goal
 
 pub returns : goal.returns

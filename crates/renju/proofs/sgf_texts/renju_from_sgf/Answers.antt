@@ -1,7 +1,6 @@
 -- `renju::sgf_texts::renju_from_sgf` meets its contract: the number of what `sgf` lists. Assumes nothing.
 use mathlib.Core.Path.{refl}
 use Rattle.renju.proofs.Words.{answered-count}
-use borrow.Author.Rules.{rules}
 use Rattle.renju.proofs.sgf_texts.renju_from_sgf.Goals as goal
 
 pub returns : goal.returns

@@ -1,7 +1,6 @@
 -- `renju::tagged::renju_to_tagged` meets its contract: the number of what `stored` lists. Assumes nothing.
 use mathlib.Core.Path.{refl}
 use Rattle.renju.proofs.Words.{answered-count}
-use borrow.Author.Rules.{rules}
 use Rattle.renju.proofs.tagged.renju_to_tagged.Goals as goal
 
 pub returns : goal.returns

@@ -6,7 +6,6 @@ use lib.ListN.{length}
 use Rattle.text.specs.Reading.{read_refusal, read_cells}
 use Rattle.text.proofs.Sound.{read_ok, read_out}
 use Rattle.renju.specs.Answers.{word, list_word}
-use borrow.Author.Rules.{rules}
 use Rattle.renju.proofs.texts.renju_read.Goals as goal
 
 pub returns : goal.returns

@@ -2,7 +2,6 @@
 use mathlib.Core.Path.{refl}
 use Rattle.display.proofs.Sizes.{diagram-length}
 use Rattle.renju.proofs.Words.{answered-length}
-use borrow.Author.Rules.{rules}
 use Rattle.renju.proofs.texts.renju_to_string.Goals as goal
 
 pub returns : goal.returns

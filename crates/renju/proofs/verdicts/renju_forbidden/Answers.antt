@@ -8,7 +8,6 @@ use Rattle.referee.specs.Answers.{forbidden_refusal}
 use Rattle.renju.specs.Answers.{word, verdict_word}
 use Rattle.renju.proofs.Words.{refused-word, verdict-word}
 use Rattle.renju.proofs.Asked.{refused-asked, asked, same-cells}
-use borrow.Author.Rules.{rules}
 use Rattle.renju.proofs.verdicts.renju_forbidden.Goals as goal
 
 pub returns-then-made-ne0 : goal.returns-then-made-ne0

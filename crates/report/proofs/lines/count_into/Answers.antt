@@ -1,7 +1,6 @@
 -- `report::lines::count_into` meets its contract: the word, the number and byte 10, one behind the other. Assumes nothing.
 use mathlib.Core.List.{[], ◌∷◌}
 use native.Mathlib.Omega.{arith}
-use borrow.Author.Rules.{rules}
 use Rattle.lent.proofs.Laws.{wrote-same}
 use Rattle.text.specs.Bytes.{newline}
 use Rattle.display.proofs.Writing.{then, put}

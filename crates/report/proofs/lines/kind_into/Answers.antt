@@ -1,6 +1,5 @@
 -- `report::lines::kind_into` meets its contract: its ways are the cases of the definition. Assumes nothing.
 use native.Mathlib.Omega.{arith}
-use borrow.Author.Rules.{rules}
 use borrow.Author.Tests.{eq-eqb, ne_eqb}
 use Rattle.report.specs.Listing.{double_three, double_four, overline, kind_text}
 use Rattle.display.proofs.Writing.{put}

@@ -1,12 +1,8 @@
 -- `report::lines::lines_into` meets its contract: after i turns the first i lines are written. Assumes nothing.
 use Prim.Native.Nat.{◌-◌, ◌≤◌}
-use native.Mathlib.Omega.{arith}
-use borrow.Author.Rules.{rules}
 use Rattle.rules.specs.Tools.{gather}
 use Rattle.lent.specs.Lists.{Wrote}
-use Rattle.lent.proofs.Laws.{wrote-same, wrote-first, wrote-part, wrote-top}
-use Rattle.report.specs.Listing.{pair_text, lines_text}
-use Rattle.report.proofs.Words.{lines-short}
+use Rattle.report.specs.Listing.{pair_text}
 use Rattle.report.proofs.lines.lines_into.Given as goal
 
 abbrev pub invariant-loop-i : goal.invariant-loop-i

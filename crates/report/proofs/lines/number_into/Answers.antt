@@ -1,6 +1,5 @@
 -- `report::lines::number_into` meets its contract: the number's word is kept. Assumes nothing.
 use native.Mathlib.Omega.{arith}
-use borrow.Author.Rules.{rules}
 use Rattle.display.proofs.Sizes.{number_short}
 use Rattle.display.proofs.Writing.{put_word}
 use Rattle.report.proofs.lines.number_into.Goals as goal

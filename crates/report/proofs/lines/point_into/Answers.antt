@@ -1,5 +1,4 @@
 -- `report::lines::point_into` meets its contract: the point's word is kept. Assumes nothing.
-use borrow.Author.Rules.{rules}
 use Rattle.display.proofs.Sizes.{point-short}
 use Rattle.display.proofs.Writing.{put_word}
 use Rattle.report.proofs.lines.point_into.Goals as goal

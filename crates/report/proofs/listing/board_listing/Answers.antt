@@ -3,7 +3,6 @@ use mathlib.Core.Path.{ap, ap₂, ◌∙◌}
 use mathlib.Core.List.{List, ◌++◌}
 use Prim.Native.Nat.{ℕ}
 use native.Mathlib.Omega.{arith}
-use borrow.Author.Rules.{rules}
 use Rattle.rules.specs.Forbidden.{forbidden_list}
 use Rattle.lent.specs.Lists.{zeros}
 use Rattle.lent.proofs.Laws.{wrote_as, wrote-same, wrote-held, length-zeros}

@@ -1,6 +1,5 @@
 -- `report::listing::count_in` meets its contract: its arms are the cases of the definition. Assumes nothing.
 use Rattle.report.specs.Listing.{count_in}
-use borrow.Author.Rules.{rules}
 use Rattle.report.proofs.listing.count_in.Goals as goal
 
 pub returns-in-Is : goal.returns-in-Is

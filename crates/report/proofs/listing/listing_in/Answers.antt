@@ -1,5 +1,4 @@
 -- `report::listing::listing_in` meets its contract: its ways are the cases of the definition. Assumes nothing.
-use borrow.Author.Rules.{rules}
 use Rattle.lent.proofs.Laws.{held-as}
 use Rattle.report.proofs.Listed.{listing-refused, listing-read, read-good}
 use Rattle.report.proofs.listing.listing_in.Goals as goal

@@ -1,6 +1,5 @@
 -- `report::listing::refused_listing` meets its contract: the line of the refusal is laid out. Assumes nothing.
 use native.Mathlib.Omega.{arith}
-use borrow.Author.Rules.{rules}
 use Rattle.lent.specs.Lists.{zeros}
 use Rattle.lent.proofs.Laws.{wrote-held}
 use Rattle.report.specs.Listing.{refused_word}

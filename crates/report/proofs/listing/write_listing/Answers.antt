@@ -1,7 +1,6 @@
 -- `report::listing::write_listing` meets its contract: the listing is laid out, then handed out. Assumes nothing.
 use mathlib.Core.Path.{refl, ap, ◌∙◌}
 use Prim.Native.Nat.{ℕ}
-use borrow.Author.Rules.{rules}
 use Rattle.display.specs.Answers.{length_answer}
 use Rattle.display.proofs.Writing.{handed-held}
 use Rattle.report.proofs.listing.write_listing.Goals as goal

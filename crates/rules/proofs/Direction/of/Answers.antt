@@ -1,5 +1,4 @@
 -- `rules::Direction::of` meets its contract: the refusal, or what the number names. Assumes nothing.
-use borrow.Author.Rules.{rules}
 use Rattle.rules.specs.Refusals.{direction_refusal}
 use Rattle.rules.specs.Answers.{direction_answer}
 use Rattle.rules.specs.declared.answer.DirectionAnswer.TheVariants.{Is, Refused}

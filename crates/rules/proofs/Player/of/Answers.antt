@@ -1,5 +1,4 @@
 -- `rules::Player::of` meets its contract: the refusal, or what the number names. Assumes nothing.
-use borrow.Author.Rules.{rules}
 use Rattle.rules.specs.Answers.{player_answer}
 use Rattle.rules.specs.declared.answer.PlayerAnswer.TheVariants.{Is, Refused}
 use Rattle.rules.proofs.Refusals.{value-given, refusal-given}

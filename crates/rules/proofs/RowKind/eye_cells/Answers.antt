@@ -1,5 +1,4 @@
 -- `rules::RowKind::eye_cells` meets its contract: each arm is the mask of the kind's eye cells. Assumes nothing.
-use borrow.Author.Rules.{rules}
 use Rattle.rules.specs.Bit.{mask_of}
 use Rattle.rules.specs.Line.{eye_cells}
 use Rattle.rules.proofs.RowKind.eye_cells.Goals as goal

@@ -1,5 +1,4 @@
 -- `rules::RowKind::of` meets its contract: the refusal, or what the number names. Assumes nothing.
-use borrow.Author.Rules.{rules}
 use Rattle.rules.specs.Answers.{kind_answer}
 use Rattle.rules.specs.declared.answer.KindAnswer.TheVariants.{Is, Refused}
 use Rattle.rules.proofs.Refusals.{value-given, refusal-given}

@@ -1,12 +1,8 @@
 -- `second::board::board_of` meets its contract: after p turns the cells below p are put. Assumes nothing.
-use mathlib.Core.Path.{◌≡◌, refl, ap, sym, ◌∙◌}
+use mathlib.Core.Path.{◌≡◌}
 use Prim.Native.Nat.{◌≤◌, ◌-◌}
-use native.Mathlib.Omega.{arith}
 use lib.ListN.{get_or}
-use borrow.Author.Rules.{rules}
-use Rattle.rules.proofs.Lists.{is-tab}
-use Rattle.lent.specs.Lists.{zeros}
-use Rattle.cells.proofs.Filled.{filled, filled_none, filled_more, filled-all}
+use Rattle.cells.proofs.Filled.{filled}
 use Rattle.second.proofs.board.board_of.Given as goal
 
 abbrev pub invariant-loop-p : goal.invariant-loop-p

@@ -1,20 +1,15 @@
 -- `second::count::count_along` meets its contract: after j turns the starts below j are seen. Assumes nothing.
 use mathlib.Core.Path.{◌≡◌}
-use Prim.Native.Nat.{◌-◌, ◌≤◌}
 use native.Mathlib.Omega.{arith}
 use borrow.Author.Tests.{lt-ltb, le-ltb}
-use borrow.Author.Rules.{rules}
-use Rattle.rules.specs.Grid.{rows_through}
-use Rattle.rules.specs.declared.Player.TheVariants.{Black}
-use Rattle.second.proofs.Tallied.{Seen, seen_none, seen-far, seen_more, seen_all}
+use Rattle.second.proofs.Tallied.{seen-far, seen_all}
 use Rattle.second.proofs.count.count_along.Goals as goal
 
 pub returns-then-found-first : goal.returns-then-found-first
-returns-then-found-first c =
-    (
-      seen-far _ c.loop-j.j c.loop-j.first c.loop-j-test.true c.loop-j.invariant.1 _ c.is_through-found.ensures c.if-found-first.true,
-      omega arith,
-    )
+returns-then-found-first c = (
+  seen-far _ c.loop-j.j c.loop-j.first c.loop-j-test.true c.loop-j.invariant.1 _ c.is_through-found.ensures c.if-found-first.true,
+  omega arith,
+)
 
 pub returns-then-first-lt16 : goal.returns-then-first-lt16
 returns-then-first-lt16 c =

@@ -1,12 +1,8 @@
 -- `second::count::count_along` meets its contract: after j turns the starts below j are seen. Assumes nothing.
-use mathlib.Core.Path.{◌≡◌}
 use Prim.Native.Nat.{◌-◌, ◌≤◌}
-use native.Mathlib.Omega.{arith}
-use borrow.Author.Tests.{lt-ltb, le-ltb}
-use borrow.Author.Rules.{rules}
 use Rattle.rules.specs.Grid.{rows_through}
 use Rattle.rules.specs.declared.Player.TheVariants.{Black}
-use Rattle.second.proofs.Tallied.{Seen, seen_none, seen-far, seen_more, seen_all}
+use Rattle.second.proofs.Tallied.{Seen}
 use Rattle.second.proofs.count.count_along.Given as goal
 
 abbrev pub invariant-loop-j : goal.invariant-loop-j

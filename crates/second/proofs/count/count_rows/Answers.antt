@@ -1,5 +1,4 @@
 -- `second::count::count_rows` meets its contract: the four lines together. Assumes nothing.
-use borrow.Author.Rules.{rules}
 use Rattle.second.specs.Count.{row_count}
 use Rattle.second.proofs.count.count_rows.Goals as goal
 

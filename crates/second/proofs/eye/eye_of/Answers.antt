@@ -1,6 +1,5 @@
 -- `second::eye::eye_of` meets its contract: the gap is the eye, and is on the line. Assumes nothing.
 use mathlib.Core.Path.{ap, ◌∙◌}
-use borrow.Author.Rules.{rules}
 use Rattle.rules.specs.Point.{line_no, point_at}
 use Rattle.rules.specs.Forbidden.{eye_of}
 use Rattle.rules.proofs.Gap.{gap-inside}

@@ -1,7 +1,5 @@
 -- `second::eye::first_gap` meets its contract: the cells are looked at one after the other. Assumes nothing.
 use mathlib.Core.Path.{sym, ◌∙◌}
-use borrow.Author.Tests.{not-true, not-false}
-use borrow.Author.Rules.{rules}
 use Rattle.rules.specs.Forbidden.{gap_from}
 use Rattle.second.proofs.eye.first_gap.Goals as goal
 

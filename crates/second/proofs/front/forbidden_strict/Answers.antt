@@ -2,7 +2,6 @@
 use mathlib.Core.Path.{sym, ap, ◌∙◌}
 use mathlib.Core.List.{List}
 use Prim.Native.Nat.{ℕ}
-use borrow.Author.Rules.{rules}
 use Rattle.rules.specs.Forbidden.{strict_of}
 use Rattle.rules.proofs.Refusals.{ruled, not-ruled}
 use Rattle.cells.proofs.Given.{cells-at-in}

@@ -1,16 +1,14 @@
 -- `second::key::first_point` meets its contract: each line starts at an edge of the board. Assumes nothing.
 use mathlib.Core.Path.{◌∙◌}
 use borrow.Author.Tests.{lt-ltb, le-ltb}
-use borrow.Author.Rules.{rules}
 use Rattle.second.proofs.Keyed.{start_is}
 use Rattle.second.proofs.key.first_point.Goals as goal
 
 pub returns-then-key-lt15 : goal.returns-then-key-lt15
-returns-then-key-lt15 c =
-    (
-      c.point.ensures.0 ∙ (rw (lt-ltb c.args.key 15 c.if-key-lt15.true) at (start_is c.args.key c.requires)),
-      c.point.ensures.1,
-    )
+returns-then-key-lt15 c = (
+  c.point.ensures.0 ∙ (rw (lt-ltb c.args.key 15 c.if-key-lt15.true) at (start_is c.args.key c.requires)),
+  c.point.ensures.1,
+)
 
 pub returns-then-key-lt30 : goal.returns-then-key-lt30
 returns-then-key-lt30 c =

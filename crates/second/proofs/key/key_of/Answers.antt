@@ -1,5 +1,4 @@
 -- `second::key::key_of` meets its contract: it says the definition. Assumes nothing.
-use borrow.Author.Rules.{rules}
 use Rattle.second.proofs.Keyed.{key-is}
 use Rattle.second.proofs.key.key_of.Goals as goal
 

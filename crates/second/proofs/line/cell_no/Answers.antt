@@ -1,5 +1,4 @@
 -- `second::line::cell_no` meets its contract: the steps back are the cells before the point. Assumes nothing.
-use borrow.Author.Rules.{rules}
 use Rattle.second.proofs.Walks.{back-cells}
 use Rattle.second.proofs.line.cell_no.Goals as goal
 

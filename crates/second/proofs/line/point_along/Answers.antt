@@ -1,6 +1,5 @@
 -- `second::line::point_along` meets its contract: the walk reaches the cell. Assumes nothing.
 use native.Mathlib.Omega.{arith}
-use borrow.Author.Rules.{rules}
 use Rattle.second.proofs.Walks.{walked, on-board}
 use Rattle.second.proofs.line.point_along.Goals as goal
 

@@ -1,6 +1,5 @@
 -- `second::line::size_along` meets its contract: the cells before the point, the point and those after it are the line. Assumes nothing.
 use native.Mathlib.Omega.{arith}
-use borrow.Author.Rules.{rules}
 use Rattle.rules.specs.Point.{line_no}
 use Rattle.rules.proofs.Address.{size-le}
 use Rattle.second.proofs.Walks.{whole-line}

@@ -1,6 +1,5 @@
 -- `second::line::steps_on` meets its contract: it says the definition. Assumes nothing.
 use Rattle.second.specs.Walk.{steps_on}
-use borrow.Author.Rules.{rules}
 use Rattle.second.proofs.line.steps_on.Goals as goal
 
 pub returns : goal.returns

@@ -1,6 +1,5 @@
 -- `second::line::x_at` meets its contract: along a vertical line x stays. Assumes nothing.
 use native.Mathlib.Omega.{arith}
-use borrow.Author.Rules.{rules}
 use Rattle.rules.specs.Point.{line_no}
 use Rattle.rules.proofs.Address.{size-le}
 use Rattle.second.specs.Walk.{x_at}

@@ -1,6 +1,5 @@
 -- `second::line::y_at` meets its contract: along a horizontal line y stays, along a descending one it falls. Assumes nothing.
 use native.Mathlib.Omega.{arith}
-use borrow.Author.Rules.{rules}
 use Rattle.rules.specs.Point.{line_no}
 use Rattle.rules.proofs.Address.{size-le, cell-here}
 use Rattle.second.specs.Walk.{y_at}

@@ -1,11 +1,8 @@
 -- `second::list::all_rows` meets its contract: after as many turns as the key the lines before it are done. Assumes nothing.
-use Prim.Native.Nat.{◌-◌, ◌≤◌}
 use native.Mathlib.Omega.{arith}
-use borrow.Author.Rules.{rules}
-use Rattle.rules.specs.Tools.{gather}
 use Rattle.rules.specs.Point.{key_dir, key_no}
 use Rattle.rules.specs.Grid.{row_on, rows_of, key_rows}
-use Rattle.lent.specs.Lists.{zeros, Wrote}
+use Rattle.lent.specs.Lists.{zeros}
 use Rattle.lent.proofs.Laws.{wrote-start, wrote-length, wrote-part, wrote_as}
 use Rattle.cells.proofs.Kept.{parts-place, parts-end}
 use Rattle.second.proofs.Gathered.{rows_short}

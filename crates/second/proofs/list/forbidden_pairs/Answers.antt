@@ -1,15 +1,13 @@
 -- `second::list::forbidden_pairs` meets its contract: after p turns the points below p are asked about. Assumes nothing.
-use mathlib.Core.Path.{◌≡◌, refl, ap, ◌∙◌}
+use mathlib.Core.Path.{refl, ap, ◌∙◌}
 use mathlib.Core.Bool.{not}
 use mathlib.Core.List.{List, [], ◌∷◌}
-use Prim.Native.Nat.{ℕ, ◌≤◌, ◌-◌}
+use Prim.Native.Nat.{ℕ}
 use native.Mathlib.Omega.{arith}
-use borrow.Author.Rules.{rules}
-use Rattle.rules.specs.Tools.{gather}
 use Rattle.rules.specs.Numbers.{is_none, verdict_no}
-use Rattle.rules.specs.Forbidden.{strict_of, entry, forbidden_list}
-use Rattle.lent.specs.Lists.{zeros, Wrote}
-use Rattle.lent.proofs.Laws.{wrote-start, wrote-length, gather-step, gather-end, short}
+use Rattle.rules.specs.Forbidden.{strict_of, forbidden_list}
+use Rattle.lent.specs.Lists.{zeros}
+use Rattle.lent.proofs.Laws.{wrote-start, gather-step, gather-end, short}
 use Rattle.second.proofs.list.forbidden_pairs.Goals as goal
 
 pub loop-p-init : goal.loop-p-init

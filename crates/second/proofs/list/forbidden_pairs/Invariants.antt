@@ -1,15 +1,9 @@
 -- `second::list::forbidden_pairs` meets its contract: after p turns the points below p are asked about. Assumes nothing.
-use mathlib.Core.Path.{◌≡◌, refl, ap, ◌∙◌}
-use mathlib.Core.Bool.{not}
-use mathlib.Core.List.{List, [], ◌∷◌}
-use Prim.Native.Nat.{ℕ, ◌≤◌, ◌-◌}
-use native.Mathlib.Omega.{arith}
-use borrow.Author.Rules.{rules}
+use mathlib.Core.Path.{◌≡◌}
+use Prim.Native.Nat.{◌≤◌, ◌-◌}
 use Rattle.rules.specs.Tools.{gather}
-use Rattle.rules.specs.Numbers.{is_none, verdict_no}
-use Rattle.rules.specs.Forbidden.{strict_of, entry, forbidden_list}
+use Rattle.rules.specs.Forbidden.{strict_of, entry}
 use Rattle.lent.specs.Lists.{zeros, Wrote}
-use Rattle.lent.proofs.Laws.{wrote-start, wrote-length, gather-step, gather-end, short}
 use Rattle.second.proofs.list.forbidden_pairs.Given as goal
 
 abbrev pub invariant-loop-p : goal.invariant-loop-p

@@ -1,10 +1,7 @@
 -- `second::list::four_eyes` meets its contract: after d turns the first d directions are done. Assumes nothing.
-use Prim.Native.Nat.{◌-◌, ◌≤◌}
 use native.Mathlib.Omega.{arith}
-use borrow.Author.Rules.{rules}
-use Rattle.rules.specs.Tools.{gather}
-use Rattle.rules.specs.Grid.{four_eyes, eyes_in}
-use Rattle.lent.specs.Lists.{zeros, Wrote}
+use Rattle.rules.specs.Grid.{four_eyes}
+use Rattle.lent.specs.Lists.{zeros}
 use Rattle.lent.proofs.Laws.{wrote-start, wrote-length, wrote-part}
 use Rattle.cells.proofs.Kept.{parts-place, parts-end}
 use Rattle.second.proofs.Gathered.{eyes-short}

@@ -1,13 +1,8 @@
 -- `second::list::four_eyes` meets its contract: after d turns the first d directions are done. Assumes nothing.
 use Prim.Native.Nat.{◌-◌, ◌≤◌}
-use native.Mathlib.Omega.{arith}
-use borrow.Author.Rules.{rules}
 use Rattle.rules.specs.Tools.{gather}
-use Rattle.rules.specs.Grid.{four_eyes, eyes_in}
+use Rattle.rules.specs.Grid.{eyes_in}
 use Rattle.lent.specs.Lists.{zeros, Wrote}
-use Rattle.lent.proofs.Laws.{wrote-start, wrote-length, wrote-part}
-use Rattle.cells.proofs.Kept.{parts-place, parts-end}
-use Rattle.second.proofs.Gathered.{eyes-short}
 use Rattle.second.proofs.list.four_eyes.Given as goal
 
 abbrev pub invariant-loop-d : goal.invariant-loop-d

@@ -1,9 +1,8 @@
 -- `second::list::is_four_eye` meets its contract: after j turns no start below j has it. Assumes nothing.
 use mathlib.Core.Path.{◌≡◌, ap, ap₂, sym, ◌∙◌}
-use mathlib.Core.Bool.{false, ◌&&◌}
-use Prim.Native.Nat.{ℕ, ◌≤◌, ◌-◌}
+use mathlib.Core.Bool.{◌&&◌}
+use Prim.Native.Nat.{ℕ}
 use native.Mathlib.Omega.{arith}
-use borrow.Author.Rules.{rules}
 use Rattle.rules.specs.Tools.{any_below}
 use Rattle.rules.specs.Line.{eye_of_some}
 use Rattle.rules.specs.Point.{line_no}
@@ -22,12 +21,11 @@ returns-then-through-is_eye c =
     (ap₂ ◌&&◌ (sym c.is_through-through.ensures) (sym c.is_eye.ensures) ∙ c.if-through-is_eye.true)
 
 pub loop-j-preserved : goal.loop-j-preserved
-loop-j-preserved c =
-    (
-      omega arith,
-      any-more _ c.loop-j.j c.loop-j.invariant.1
-          (ap₂ ◌&&◌ (sym c.is_through-through.ensures) (sym c.is_eye.ensures) ∙ c.if-through-is_eye.false),
-    )
+loop-j-preserved c = (
+  omega arith,
+  any-more _ c.loop-j.j c.loop-j.invariant.1
+      (ap₂ ◌&&◌ (sym c.is_through-through.ensures) (sym c.is_eye.ensures) ∙ c.if-through-is_eye.false),
+)
 
 pub returns : goal.returns
 unfolding four_eye eye_of_some eye_on

@@ -1,15 +1,11 @@
 -- `second::list::is_four_eye` meets its contract: after j turns no start below j has it. Assumes nothing.
-use mathlib.Core.Path.{◌≡◌, ap, ap₂, sym, ◌∙◌}
+use mathlib.Core.Path.{◌≡◌}
 use mathlib.Core.Bool.{false, ◌&&◌}
-use Prim.Native.Nat.{ℕ, ◌≤◌, ◌-◌}
-use native.Mathlib.Omega.{arith}
-use borrow.Author.Rules.{rules}
+use Prim.Native.Nat.{◌≤◌, ◌-◌}
 use Rattle.rules.specs.Tools.{any_below}
-use Rattle.rules.specs.Line.{eye_of_some}
 use Rattle.rules.specs.Point.{line_no}
-use Rattle.rules.specs.Grid.{rows_through, eye_on, four_eye}
+use Rattle.rules.specs.Grid.{rows_through, eye_on}
 use Rattle.rules.specs.declared.RowKind.TheVariants.{Four}
-use Rattle.second.proofs.Gathered.{any_none, any-more, any_found}
 use Rattle.second.proofs.list.is_four_eye.Given as goal
 
 abbrev pub invariant-loop-j : goal.invariant-loop-j

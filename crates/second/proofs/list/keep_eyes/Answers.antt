@@ -2,15 +2,13 @@
 use mathlib.Core.Path.{ap₂}
 use mathlib.Core.Bool.{Bool}
 use mathlib.Core.List.{[], ◌∷◌}
-use Prim.Native.Nat.{ℕ, ◌≤◌, ◌-◌}
+use Prim.Native.Nat.{ℕ}
 use native.Mathlib.Omega.{arith}
-use borrow.Author.Rules.{rules}
-use Rattle.rules.specs.Tools.{gather, only}
-use Rattle.rules.specs.Point.{line_no, line_size}
+use Rattle.rules.specs.Tools.{only}
+use Rattle.rules.specs.Point.{line_no}
 use Rattle.rules.proofs.Address.{size-le}
-use Rattle.lent.specs.Lists.{Wrote}
-use Rattle.lent.proofs.Laws.{wrote-same, wrote-first, wrote-step, wrote-top}
-use Rattle.second.proofs.Gathered.{eye_item, eyes-so-far}
+use Rattle.lent.proofs.Laws.{wrote-first, wrote-step}
+use Rattle.second.proofs.Gathered.{eyes-so-far}
 use Rattle.second.proofs.list.keep_eyes.Goals as goal
 
 pub loop-i-init : goal.loop-i-init

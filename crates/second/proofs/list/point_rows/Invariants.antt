@@ -1,14 +1,8 @@
 -- `second::list::point_rows` meets its contract: after d turns the first d directions are done. Assumes nothing.
 use Prim.Native.Nat.{◌-◌, ◌≤◌}
-use native.Mathlib.Omega.{arith}
-use borrow.Author.Rules.{rules}
 use Rattle.rules.specs.Tools.{gather}
-use Rattle.rules.specs.Point.{line_no}
-use Rattle.rules.specs.Grid.{rows_through, rows_on_point, rows_in}
+use Rattle.rules.specs.Grid.{rows_in}
 use Rattle.lent.specs.Lists.{zeros, Wrote}
-use Rattle.lent.proofs.Laws.{wrote-start, wrote-length, wrote-part}
-use Rattle.cells.proofs.Kept.{parts-place, parts-end}
-use Rattle.second.proofs.Gathered.{rows_short}
 use Rattle.second.proofs.list.point_rows.Given as goal
 
 abbrev pub invariant-loop-d : goal.invariant-loop-d

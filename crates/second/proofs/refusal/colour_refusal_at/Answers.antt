@@ -1,5 +1,4 @@
 -- `second::refusal::colour_refusal_at` meets its contract: what it calls says it. Assumes nothing.
-use borrow.Author.Rules.{rules}
 use Rattle.cells.specs.Cells.{cells_refusal_for}
 use Rattle.second.proofs.refusal.colour_refusal_at.Goals as goal
 

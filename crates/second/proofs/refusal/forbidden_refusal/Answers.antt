@@ -1,6 +1,5 @@
 -- `second::refusal::forbidden_refusal` meets its contract: what it calls says it. Assumes nothing.
 use lib.ListN.{get_or}
-use borrow.Author.Rules.{rules}
 use Rattle.cells.proofs.Given.{no-colour}
 use Rattle.second.specs.Lists.{cells_forbidden_refusal}
 use Rattle.second.proofs.refusal.forbidden_refusal.Goals as goal

@@ -1,5 +1,4 @@
 -- `second::refusal::rows_refusal` meets its contract: what it calls says it. Assumes nothing.
-use borrow.Author.Rules.{rules}
 use Rattle.cells.specs.Cells.{cells_stones_refusal}
 use Rattle.second.specs.Lists.{cells_rows_refusal}
 use Rattle.second.proofs.refusal.rows_refusal.Goals as goal

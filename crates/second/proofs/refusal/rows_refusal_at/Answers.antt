@@ -1,5 +1,4 @@
 -- `second::refusal::rows_refusal_at` meets its contract: what it calls says it. Assumes nothing.
-use borrow.Author.Rules.{rules}
 use Rattle.second.specs.Lists.{cells_rows_on_refusal}
 use Rattle.second.proofs.refusal.rows_refusal_at.Goals as goal
 

@@ -1,5 +1,4 @@
 -- `second::row::both_hold` meets its contract: before the first window there is none. Assumes nothing.
-use borrow.Author.Rules.{rules}
 use Rattle.rules.specs.Line.{over_at}
 use Rattle.second.proofs.Counted.{pair-first, pair-later}
 use Rattle.second.proofs.row.both_hold.Goals as goal

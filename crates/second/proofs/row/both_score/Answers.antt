@@ -1,6 +1,4 @@
 -- `second::row::both_score` meets its contract: before the first window there is none. Assumes nothing.
-use borrow.Author.Rules.{rules}
-use Rattle.rules.specs.Line.{scores}
 use Rattle.second.proofs.Counted.{pair-first, pair-later}
 use Rattle.second.proofs.row.both_score.Goals as goal
 

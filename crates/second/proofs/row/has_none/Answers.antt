@@ -1,5 +1,4 @@
 -- `second::row::has_none` meets its contract: it says the definition. Assumes nothing.
-use borrow.Author.Rules.{rules}
 use Rattle.rules.specs.Line.{no_stone}
 use Rattle.second.proofs.row.has_none.Goals as goal
 

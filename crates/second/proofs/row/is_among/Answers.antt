@@ -1,6 +1,5 @@
 -- `second::row::is_among` meets its contract: it says the definition. Assumes nothing.
 use mathlib.Core.Path.{refl}
-use borrow.Author.Rules.{rules}
 use Rattle.rules.specs.Line.{among}
 use Rattle.second.proofs.row.is_among.Goals as goal
 

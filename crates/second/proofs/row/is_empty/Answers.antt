@@ -1,5 +1,4 @@
 -- `second::row::is_empty` meets its contract: it says the definition. Assumes nothing.
-use borrow.Author.Rules.{rules}
 use Rattle.rules.specs.Line.{empty_at}
 use Rattle.second.proofs.row.is_empty.Goals as goal
 

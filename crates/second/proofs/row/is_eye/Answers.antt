@@ -1,5 +1,4 @@
 -- `second::row::is_eye` meets its contract: it says the definition. Assumes nothing.
-use borrow.Author.Rules.{rules}
 use Rattle.rules.specs.Line.{is_eye}
 use Rattle.rules.specs.Grid.{eye_on}
 use Rattle.second.proofs.row.is_eye.Goals as goal

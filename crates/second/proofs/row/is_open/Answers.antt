@@ -1,5 +1,4 @@
 -- `second::row::is_open` meets its contract: it says the definition. Assumes nothing.
-use borrow.Author.Rules.{rules}
 use Rattle.rules.specs.Line.{open_at}
 use Rattle.second.proofs.row.is_open.Goals as goal
 

@@ -1,5 +1,4 @@
 -- `second::row::is_row` meets its contract: each arm is the kind's test. Assumes nothing.
-use borrow.Author.Rules.{rules}
 use Rattle.rules.specs.Line.{row_at}
 use Rattle.rules.specs.Grid.{row_on}
 use Rattle.second.proofs.row.is_row.Goals as goal

@@ -1,7 +1,5 @@
 -- `second::row::is_through` meets its contract: elsewhere it does not go through the point. Assumes nothing.
 use mathlib.Core.Path.{◌≡◌, sym, ◌∙◌}
-use borrow.Author.Rules.{rules}
-use borrow.Author.Tests.{not-true, not-false}
 use Rattle.rules.specs.Grid.{rows_through}
 use Rattle.rules.specs.Line.{through}
 use Rattle.rules.specs.Point.{cell_no}

@@ -1,5 +1,4 @@
 -- `second::row_bytes::row_bytes` meets its contract: it says the definition. Assumes nothing.
-use borrow.Author.Rules.{rules}
 use Rattle.rules.specs.Grid.{row_bytes}
 use Rattle.second.proofs.row_bytes.row_bytes.Goals as goal
 

@@ -1,5 +1,4 @@
 -- `second::row_bytes::stones_mask` meets its contract: five cells as a mask. Assumes nothing.
-use borrow.Author.Rules.{rules}
 use Rattle.rules.specs.Line.{stones_mask}
 use Rattle.rules.specs.Point.{line_no}
 use Rattle.rules.specs.Grid.{stone_at}

@@ -2,21 +2,17 @@
 -- one board `count_real` 6, `count_real_along` 5, `is_real` 4, `strict_by` 3, `plain` 2, `is_double_three` 1. Assumes nothing.
 use mathlib.Core.Path.{◌≡◌, refl, ap, sym, ◌∙◌}
 use mathlib.Core.List.{List}
-use Prim.Native.Nat.{ℕ, ◌+◌, ◌-◌, ◌*◌, ◌≤◌, ◌<◌}
+use Prim.Native.Nat.{ℕ}
 use native.Mathlib.Omega.{arith}
-use borrow.Author.Tests.{not-true, not-false, lt-ltb, le-ltb}
-use borrow.Author.Rules.{rules}
-use Rattle.rules.specs.Grid.{empties}
+use borrow.Author.Tests.{lt-ltb, le-ltb}
 use Rattle.rules.specs.Forbidden.{real_threes, strict_of, plain_of, plain_with, is_overline, is_double_four, is_double_three}
 use Rattle.rules.proofs.Logic.{true-T}
 use Rattle.rules.proofs.Gap.{eye-free, five-not-real, real-told}
 use Rattle.second.specs.Count.{row_count, rows_along}
-use Rattle.second.proofs.Tallied.{Seen, seen_none, seen-far, seen_more, seen_all}
+use Rattle.second.proofs.Tallied.{seen-far, seen_all}
 use Rattle.second.proofs.Asked.{some-true, some-false, more-true, more-false, more-is, asked-five, asked-plain}
 use Rattle.second.proofs.Asked.{five-true, five-false, zero-there}
-use Rattle.second.proofs.Asked.{with-ok, with-fewer, written_back, fewer}
-use borrow.Fn.Kinds.{In}
-use borrow.Fn.PlainCycle.{Measures, is, falls, and}
+use Rattle.second.proofs.Asked.{with-ok, with-fewer, written_back}
 use Rattle.second.proofs.verdict.+questions.Goals as goal
 
 pub count_real-returns : goal.count_real-returns
@@ -140,8 +136,7 @@ plain-returns-then-count_rows-ge2 t c =
 pub plain-returns-then-is_double_three : goal.plain-returns-then-is_double_three
 unfolding plain_of plain_with is_overline is_double_four
 plain-returns-then-is_double_three t c =
-    let r = c.is_double_three.ensures in
-    (
+    let r = c.is_double_three.ensures in (
       rw (
         some-false _ c.count_rows.ensures c.if-count_rows-ge1.false,
         more-false _ c.count_rows-2.ensures c.if-count_rows-ge2.false,
@@ -153,8 +148,7 @@ plain-returns-then-is_double_three t c =
 pub plain-returns : goal.plain-returns
 unfolding plain_of plain_with is_overline is_double_four
 plain-returns t c =
-    let r = c.is_double_three.ensures in
-    (
+    let r = c.is_double_three.ensures in (
       rw (
         some-false _ c.count_rows.ensures c.if-count_rows-ge1.false,
         more-false _ c.count_rows-2.ensures c.if-count_rows-ge2.false,

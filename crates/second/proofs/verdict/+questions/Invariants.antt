@@ -1,22 +1,10 @@
 -- The six functions of the cycle meet their contracts. What falls at each call is six times the number of empty points, and a little: on
 -- one board `count_real` 6, `count_real_along` 5, `is_real` 4, `strict_by` 3, `plain` 2, `is_double_three` 1. Assumes nothing.
-use mathlib.Core.Path.{◌≡◌, refl, ap, sym, ◌∙◌}
-use mathlib.Core.List.{List}
-use Prim.Native.Nat.{ℕ, ◌+◌, ◌-◌, ◌*◌, ◌≤◌, ◌<◌}
-use native.Mathlib.Omega.{arith}
-use borrow.Author.Tests.{not-true, not-false, lt-ltb, le-ltb}
-use borrow.Author.Rules.{rules}
+use mathlib.Core.Path.{◌≡◌}
+use Prim.Native.Nat.{◌+◌, ◌-◌, ◌*◌, ◌≤◌}
 use Rattle.rules.specs.Grid.{empties}
-use Rattle.rules.specs.Forbidden.{real_threes, strict_of, plain_of, plain_with, is_overline, is_double_four, is_double_three}
-use Rattle.rules.proofs.Logic.{true-T}
-use Rattle.rules.proofs.Gap.{eye-free, five-not-real, real-told}
-use Rattle.second.specs.Count.{row_count, rows_along}
-use Rattle.second.proofs.Tallied.{Seen, seen_none, seen-far, seen_more, seen_all}
-use Rattle.second.proofs.Asked.{some-true, some-false, more-true, more-false, more-is, asked-five, asked-plain}
-use Rattle.second.proofs.Asked.{five-true, five-false, zero-there}
-use Rattle.second.proofs.Asked.{with-ok, with-fewer, written_back, fewer}
-use borrow.Fn.Kinds.{In}
-use borrow.Fn.PlainCycle.{Measures, is, falls, and}
+use Rattle.rules.specs.Forbidden.{real_threes, strict_of}
+use Rattle.second.proofs.Tallied.{Seen}
 use Rattle.second.proofs.verdict.+questions.Given as goal
 
 abbrev pub decreases-count_real : goal.decreases-count_real

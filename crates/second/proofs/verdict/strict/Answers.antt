@@ -1,6 +1,5 @@
 -- `second::verdict::strict` meets its contract. Assumes nothing.
 use mathlib.Core.Path.{refl}
-use borrow.Author.Rules.{rules}
 use Rattle.second.proofs.Asked.{asked-taken}
 use Rattle.second.proofs.verdict.strict.Goals as goal
 

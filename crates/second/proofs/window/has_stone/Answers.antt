@@ -1,7 +1,6 @@
 -- `second::window::has_stone` meets its contract: off the line there is no stone, on it the cell says. Assumes nothing.
 use mathlib.Core.Path.{sym}
 use native.Mathlib.Omega.{arith}
-use borrow.Author.Rules.{rules}
 use Rattle.rules.specs.Point.{line_no}
 use Rattle.rules.proofs.Rows.{stone-in, stone-out}
 use Rattle.second.proofs.window.has_stone.Goals as goal

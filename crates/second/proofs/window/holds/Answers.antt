@@ -1,5 +1,4 @@
 -- `second::window::holds` meets its contract: it says the definition. Assumes nothing.
-use borrow.Author.Rules.{rules}
 use Rattle.rules.specs.Line.{holds}
 use Rattle.second.proofs.window.holds.Goals as goal
 

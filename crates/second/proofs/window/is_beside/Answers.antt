@@ -1,6 +1,5 @@
 -- `second::window::is_beside` meets its contract: before the first cell of the line there is none. Assumes nothing.
 use mathlib.Core.Path.{◌∙◌}
-use borrow.Author.Rules.{rules}
 use Rattle.rules.specs.Point.{line_no}
 use Rattle.rules.specs.Grid.{stone_at}
 use Rattle.second.proofs.Counted.{beside_first, beside-later}

@@ -1,5 +1,4 @@
 -- `second::window::is_dead` meets its contract: it says the definition. Assumes nothing.
-use borrow.Author.Rules.{rules}
 use Rattle.rules.specs.Line.{dead}
 use Rattle.second.proofs.window.is_dead.Goals as goal
 

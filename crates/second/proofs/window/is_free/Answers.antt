@@ -1,5 +1,4 @@
 -- `second::window::is_free` meets its contract: no stone of the other colour is counted. Assumes nothing.
-use borrow.Author.Rules.{rules}
 use Rattle.rules.specs.Numbers.{opponent_of}
 use Rattle.rules.specs.Point.{line_no}
 use Rattle.rules.specs.Grid.{stone_at}

@@ -1,5 +1,4 @@
 -- `second::window::is_inside` meets its contract: it says the definition. Assumes nothing.
-use borrow.Author.Rules.{rules}
 use Rattle.rules.specs.Line.{inside}
 use Rattle.second.proofs.window.is_inside.Goals as goal
 

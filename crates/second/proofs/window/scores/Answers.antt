@@ -1,5 +1,4 @@
 -- `second::window::scores` meets its contract: it says the definition. Assumes nothing.
-use borrow.Author.Rules.{rules}
 use Rattle.rules.specs.Line.{scores}
 use Rattle.second.proofs.window.scores.Goals as goal
 

@@ -1,9 +1,7 @@
 -- `second::window::stones_in` meets its contract: after k turns the first k cells are counted. Assumes nothing.
 use mathlib.Core.Path.{◌≡◌, ap, sym, ◌∙◌}
-use mathlib.Core.Logic.{⊎_elim}
-use Prim.Native.Nat.{ℕ, ◌+◌, ◌-◌, ◌≤◌}
+use Prim.Native.Nat.{ℕ, ◌+◌}
 use native.Mathlib.Omega.{arith}
-use borrow.Author.Rules.{rules}
 use Rattle.rules.specs.Point.{line_no}
 use Rattle.rules.specs.Grid.{stone_at}
 use Rattle.second.proofs.Counted.{count_to, count_none, count-one, count_same, count-all}
@@ -20,13 +18,13 @@ loop-k-preserved c =
     let k = c.loop-k.k in
     let e = c.loop-k.invariant.2 in
     elim c.if-has_stone.branch [
-      then-has_stone w ↦ (
+      | then-has_stone w ↦ (
         omega arith,
         omega arith,
         w.n-is ∙ ap (λ (x : ℕ). x + 1) e ∙ count-one own a.j k (sym c.has_stone.ensures ∙ w.if-has_stone.true),
       )
-    | else-has_stone w ↦
-        (omega arith, omega arith, w.n-is ∙ e ∙ count_same own a.j k (sym c.has_stone.ensures ∙ w.if-has_stone.false))
+      | else-has_stone w ↦
+          (omega arith, omega arith, w.n-is ∙ e ∙ count_same own a.j k (sym c.has_stone.ensures ∙ w.if-has_stone.false))
     ]
 
 pub returns : goal.returns

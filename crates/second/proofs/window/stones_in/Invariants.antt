@@ -1,12 +1,9 @@
 -- `second::window::stones_in` meets its contract: after k turns the first k cells are counted. Assumes nothing.
-use mathlib.Core.Path.{◌≡◌, ap, sym, ◌∙◌}
-use mathlib.Core.Logic.{⊎_elim}
-use Prim.Native.Nat.{ℕ, ◌+◌, ◌-◌, ◌≤◌}
-use native.Mathlib.Omega.{arith}
-use borrow.Author.Rules.{rules}
+use mathlib.Core.Path.{◌≡◌}
+use Prim.Native.Nat.{◌-◌, ◌≤◌}
 use Rattle.rules.specs.Point.{line_no}
 use Rattle.rules.specs.Grid.{stone_at}
-use Rattle.second.proofs.Counted.{count_to, count_none, count-one, count_same, count-all}
+use Rattle.second.proofs.Counted.{count_to}
 use Rattle.second.proofs.window.stones_in.Given as goal
 
 abbrev pub invariant-loop-k : goal.invariant-loop-k

@@ -1,6 +1,5 @@
 -- `segment::row::holds` meets its contract: its arms are the cases of the definition. Assumes nothing.
 use mathlib.Core.Path.{sym, ◌∙◌}
-use borrow.Author.Rules.{rules}
 use Rattle.segment.proofs.Segments.{segment-free, segment-blocked}
 use Rattle.segment.proofs.row.holds.Goals as goal
 

@@ -1,5 +1,4 @@
 -- `segment::row::is_match` meets its contract: its arms are the cases of the definition. Assumes nothing.
-use borrow.Author.Rules.{rules}
 use Rattle.segment.specs.Rows.{match_of}
 use Rattle.segment.proofs.row.is_match.Goals as goal
 

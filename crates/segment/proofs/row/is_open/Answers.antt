@@ -1,6 +1,5 @@
 -- `segment::row::is_open` meets its contract: its arms are the cases of the definition. Assumes nothing.
 use mathlib.Core.Path.{sym, ◌∙◌}
-use borrow.Author.Rules.{rules}
 use Rattle.segment.proofs.Segments.{segment-open}
 use Rattle.segment.specs.Rows.{open_of}
 use Rattle.segment.proofs.row.is_open.Goals as goal

@@ -1,6 +1,5 @@
 -- `segment::row::is_over` meets its contract: its arms are the cases of the definition. Assumes nothing.
 use mathlib.Core.Path.{sym, ◌∙◌}
-use borrow.Author.Rules.{rules}
 use Rattle.segment.specs.Rows.{over_of}
 use Rattle.segment.proofs.row.is_over.Goals as goal
 

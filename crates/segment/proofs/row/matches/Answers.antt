@@ -1,5 +1,4 @@
 -- `segment::matches` meets its contract: what it calls says it. Assumes nothing.
-use borrow.Author.Rules.{rules}
 use Rattle.segment.specs.Rows.{match_refusal}
 use Rattle.segment.proofs.row.matches.Goals as goal
 

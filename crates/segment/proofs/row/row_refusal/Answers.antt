@@ -1,5 +1,4 @@
 -- `segment::row::row_refusal` meets its contract: what it calls says it. Assumes nothing.
-use borrow.Author.Rules.{rules}
 use Rattle.segment.specs.Rows.{row_refusal}
 use Rattle.segment.proofs.row.row_refusal.Goals as goal
 

@@ -1,6 +1,5 @@
 -- `segment::row::scores` meets its contract: its arms are the cases of the definition. Assumes nothing.
 use mathlib.Core.Path.{sym, ◌∙◌}
-use borrow.Author.Rules.{rules}
 use Rattle.segment.proofs.Segments.{segment-dead, segment-alive}
 use Rattle.segment.proofs.row.scores.Goals as goal
 

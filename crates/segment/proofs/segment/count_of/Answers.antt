@@ -1,6 +1,6 @@
 -- `segment::segment::count_of` meets its contract: a computed test of all 256 bytes. Assumes nothing.
 use borrow.Author.Rules.{rules}
-use Rattle.segment.proofs.Segments.{count-byte, count_small}
+use Rattle.segment.proofs.Segments.{count-byte}
 use Rattle.segment.proofs.segment.count_of.Goals as goal
 
 pub returns : goal.returns

@@ -1,6 +1,5 @@
 -- `segment::segment::is_dead` meets its contract: its arms are the cases of the definition. Assumes nothing.
 use mathlib.Core.Path.{sym, ◌∙◌}
-use borrow.Author.Rules.{rules}
 use Rattle.rules.specs.Line.{dead}
 use Rattle.segment.proofs.segment.is_dead.Goals as goal
 

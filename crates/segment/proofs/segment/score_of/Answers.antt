@@ -1,6 +1,5 @@
 -- `segment::segment::score_of` meets its contract: its arms are the cases of the definition. Assumes nothing.
 use mathlib.Core.Path.{sym, ◌∙◌}
-use borrow.Author.Rules.{rules}
 use Rattle.rules.specs.Bit.{bit}
 use Rattle.rules.specs.Line.{score}
 use Rattle.segment.proofs.Segments.{small_signed, signed}

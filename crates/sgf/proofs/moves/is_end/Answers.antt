@@ -7,7 +7,6 @@ use lib.Dec.{eqb}
 use lib.ListN.{length}
 use Rattle.sgf.specs.Tokens.{first_token}
 use Rattle.sgf.proofs.Games.{end-told}
-use borrow.Author.Rules.{rules}
 use Rattle.sgf.proofs.moves.is_end.Goals as goal
 
 pub returns : goal.returns

@@ -4,7 +4,6 @@ use mathlib.Core.Bool.{Bool, ◌&&◌}
 use Rattle.sgf.specs.Tokens.{tokens_of}
 use Rattle.sgf.specs.Games.{game_value, size_name, size_value, are_three, is_front}
 use Rattle.sgf.proofs.Tokens.{behind-three-of}
-use borrow.Author.Rules.{rules}
 use Rattle.sgf.proofs.moves.is_front.Goals as goal
 
 pub returns : goal.returns

@@ -5,7 +5,6 @@ use Prim.Native.Nat.{ℕ}
 use Rattle.rules.specs.Cases.{same}
 use Rattle.sgf.specs.Games.{node, is_point, is_move}
 use Rattle.sgf.proofs.Tokens.{first_of, second_at, third_at}
-use borrow.Author.Rules.{rules}
 use Rattle.sgf.proofs.moves.is_move.Goals as goal
 
 pub returns : goal.returns

@@ -2,7 +2,6 @@
 use mathlib.Core.Path.{ap, ◌∙◌}
 use Rattle.sgf.specs.Games.{is_point, point_of}
 use Rattle.sgf.proofs.Tokens.{third_at}
-use borrow.Author.Rules.{rules}
 use Rattle.sgf.proofs.moves.move_point.Goals as goal
 
 pub point_of-requires : goal.point_of-requires

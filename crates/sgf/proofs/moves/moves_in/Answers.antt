@@ -1,13 +1,11 @@
 -- `sgf::moves::moves_in` meets its contract: n moves are kept, and the rest has the others. Assumes nothing.
 use mathlib.Core.Path.{refl, ap, sym, ◌∙◌}
 use native.Mathlib.Omega.{arith}
-use lib.ListN.{length}
 use Rattle.lent.specs.Lists.{zeros}
-use Rattle.lent.proofs.Laws.{wrote_none, wrote-length}
+use Rattle.lent.proofs.Laws.{wrote_none}
 use Rattle.sgf.specs.Tokens.{tokens_of, token_at}
 use Rattle.sgf.specs.Games.{is_end}
-use Rattle.sgf.proofs.Games.{Reading, shorter, turned, moves-held, left_behind, move-value}
-use borrow.Author.Rules.{rules}
+use Rattle.sgf.proofs.Games.{shorter, turned, moves-held, left_behind, move-value}
 use Rattle.sgf.proofs.moves.moves_in.Goals as goal
 
 pub loop-codes-init : goal.loop-codes-init

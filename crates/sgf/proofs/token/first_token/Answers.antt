@@ -3,7 +3,6 @@ use mathlib.Core.Path.{◌≡◌, ap, sym, ◌∙◌}
 use mathlib.Core.List.{List}
 use Prim.Native.Nat.{ℕ}
 use lib.ListN.{take, drop}
-use borrow.Author.Rules.{rules}
 use Rattle.text.specs.Bytes.{trim_start}
 use Rattle.text.proofs.Places.{trim_start_lem}
 use Rattle.sgf.specs.Tokens.{token_length, first_token}

@@ -2,7 +2,6 @@
 use mathlib.Core.Path.{ap, ◌∙◌}
 use mathlib.Core.List.{List}
 use Prim.Native.Nat.{ℕ}
-use borrow.Author.Rules.{rules}
 use Rattle.rules.specs.Cases.{same}
 use Rattle.sgf.proofs.Tokens.{same-told}
 use Rattle.sgf.proofs.token.is_token.Goals as goal

@@ -1,10 +1,8 @@
 -- `sgf::token::name_length` meets its contract: the bytes below i are capital letters. Assumes nothing.
-use mathlib.Core.Path.{◌≡◌, ap, sym, ◌∙◌}
+use mathlib.Core.Path.{ap, sym, ◌∙◌}
 use mathlib.Core.Bool.{not}
-use Prim.Native.Nat.{◌+◌, ◌≤◌, ◌-◌}
+use Prim.Native.Nat.{◌-◌}
 use native.Mathlib.Omega.{arith}
-use lib.ListN.{length, drop}
-use borrow.Author.Rules.{rules}
 use Rattle.lent.proofs.Found.{first-hit, first_step, first-end}
 use Rattle.sgf.specs.Tokens.{name_length}
 use Rattle.sgf.proofs.token.name_length.Goals as goal
@@ -17,12 +15,11 @@ returns-then-not-is_capital c =
 
 pub loop-i-preserved : goal.loop-i-preserved
 unfolding name_length
-loop-i-preserved c =
-    (
-      omega arith,
-      c.loop-i.invariant.1 ∙ first_step _ c.args.s.now c.loop-i.i (omega arith)
-          (ap not (sym c.is_capital.ensures ∙ c.if-not-is_capital.false)),
-    )
+loop-i-preserved c = (
+  omega arith,
+  c.loop-i.invariant.1 ∙ first_step _ c.args.s.now c.loop-i.i (omega arith)
+      (ap not (sym c.is_capital.ensures ∙ c.if-not-is_capital.false)),
+)
 
 pub returns : goal.returns
 unfolding name_length

@@ -1,11 +1,7 @@
 -- `sgf::token::name_length` meets its contract: the bytes below i are capital letters. Assumes nothing.
-use mathlib.Core.Path.{◌≡◌, ap, sym, ◌∙◌}
-use mathlib.Core.Bool.{not}
+use mathlib.Core.Path.{◌≡◌}
 use Prim.Native.Nat.{◌+◌, ◌≤◌, ◌-◌}
-use native.Mathlib.Omega.{arith}
 use lib.ListN.{length, drop}
-use borrow.Author.Rules.{rules}
-use Rattle.lent.proofs.Found.{first-hit, first_step, first-end}
 use Rattle.sgf.specs.Tokens.{name_length}
 use Rattle.sgf.proofs.token.name_length.Given as goal
 

@@ -1,6 +1,5 @@
 -- `sgf::token::value_length` meets its contract: a bracket is found before the end, or there is none. Assumes nothing.
 use native.Mathlib.Omega.{arith}
-use borrow.Author.Rules.{rules}
 use Rattle.text.proofs.Places.{has-yes, has_no}
 use Rattle.sgf.specs.Tokens.{close_bracket, value_length}
 use Rattle.sgf.proofs.token.value_length.Goals as goal

@@ -1,6 +1,5 @@
 -- `sgf::value::is_point` meets its contract: what it calls says it. Assumes nothing.
 use mathlib.Core.Path.{ap, ◌∙◌}
-use borrow.Author.Rules.{rules}
 use Rattle.sgf.specs.Games.{letter_no, is_point}
 use Rattle.sgf.proofs.value.is_point.Goals as goal
 

@@ -2,7 +2,6 @@
 use mathlib.Core.Path.{ap, ap₂, ◌∙◌}
 use Prim.Native.Nat.{ℕ, ◌+◌, ◌*◌, ◌-◌}
 use native.Mathlib.Omega.{arith}
-use borrow.Author.Rules.{rules}
 use Rattle.sgf.specs.Games.{letter_no, point_of}
 use Rattle.sgf.proofs.Games.{point-letters}
 use Rattle.sgf.proofs.value.point_of.Goals as goal

@@ -4,7 +4,6 @@ use Rattle.lent.specs.Lists.{zeros, Wrote}
 use Rattle.lent.proofs.Laws.{wrote-same, length-zeros}
 use Rattle.sgf.specs.Games.{closes}
 use Rattle.sgf.proofs.Texts.{front_text, kept, moves-length, text-held}
-use borrow.Author.Rules.{rules}
 use Rattle.sgf.proofs.written.game_text.Goals as goal
 
 pub keep_moves-end-requires : goal.keep_moves-end-requires

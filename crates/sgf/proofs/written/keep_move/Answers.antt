@@ -6,7 +6,6 @@ use native.Mathlib.Omega.{arith}
 use Rattle.lent.proofs.Laws.{wrote_as}
 use Rattle.sgf.specs.Games.{point_value, move_text}
 use Rattle.sgf.proofs.Texts.{kept}
-use borrow.Author.Rules.{rules}
 use Rattle.sgf.proofs.written.keep_move.Goals as goal
 
 pub returns : goal.returns

@@ -4,7 +4,6 @@ use mathlib.Core.List.{List}
 use Prim.Native.Nat.{ℕ}
 use lib.ListN.{drop}
 use Rattle.stored.specs.Fields.{behind_field}
-use borrow.Author.Rules.{rules}
 use Rattle.stored.proofs.field.behind_field.Goals as goal
 
 pub returns : goal.returns

@@ -2,7 +2,6 @@
 use mathlib.Core.Path.{ap₂}
 use Prim.Native.Nat.{ℕ, ◌+◌, ◌*◌}
 use Rattle.stored.specs.Fields.{field_length}
-use borrow.Author.Rules.{rules}
 use Rattle.stored.proofs.field.field_length.Goals as goal
 
 pub returns : goal.returns

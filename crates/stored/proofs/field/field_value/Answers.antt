@@ -4,7 +4,6 @@ use mathlib.Core.List.{List}
 use Prim.Native.Nat.{ℕ}
 use lib.ListN.{take}
 use Rattle.stored.specs.Fields.{field_value}
-use borrow.Author.Rules.{rules}
 use Rattle.stored.proofs.field.field_value.Goals as goal
 
 pub returns : goal.returns

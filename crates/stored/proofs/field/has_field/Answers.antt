@@ -6,7 +6,6 @@ use lib.Dec.{leb}
 use lib.ListN.{length, get_or}
 use borrow.Author.Tests.{eq-eqb, ne_eqb}
 use Rattle.stored.specs.Fields.{field_length, has_field}
-use borrow.Author.Rules.{rules}
 use Rattle.stored.proofs.field.has_field.Goals as goal
 
 pub returns-then-value_at-tag : goal.returns-then-value_at-tag

@@ -1,6 +1,5 @@
 -- `stored::field::keep_field` meets its contract: its front, then the value, one behind the other. Assumes nothing.
 use Rattle.stored.proofs.Fields.{field-kept}
-use borrow.Author.Rules.{rules}
 use Rattle.stored.proofs.field.keep_field.Goals as goal
 
 pub returns : goal.returns

@@ -5,7 +5,6 @@ use lib.ListN.{length}
 use Rattle.lent.proofs.Laws.{turned_down}
 use Rattle.cells.proofs.Kept.{handed-whole}
 use Rattle.stored.proofs.Records.{back-few}
-use borrow.Author.Rules.{rules}
 use Rattle.stored.proofs.front.from_tagged.Goals as goal
 
 pub returns-then-refused-ne0 : goal.returns-then-refused-ne0

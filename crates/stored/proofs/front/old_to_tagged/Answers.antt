@@ -1,6 +1,5 @@
 -- `stored::front::old_to_tagged` meets its contract: view 0 is not refused. Assumes nothing.
 use Rattle.stored.proofs.Records.{tagged-old}
-use borrow.Author.Rules.{rules}
 use Rattle.stored.proofs.front.old_to_tagged.Goals as goal
 
 pub returns : goal.returns

@@ -6,7 +6,6 @@ use Rattle.lent.proofs.Laws.{length-zeros, wrote-same, wrote-all, wrote-held}
 use Rattle.stored.specs.Fields.{field}
 use Rattle.stored.specs.Records.{view_tag, moves_tag, record_of}
 use Rattle.stored.proofs.Records.{record-length}
-use borrow.Author.Rules.{rules}
 use Rattle.stored.proofs.record.record_of.Goals as goal
 
 pub keep_field-len-requires : goal.keep_field-len-requires

@@ -2,7 +2,6 @@
 use mathlib.Core.Path.{ap, ◌∙◌}
 use Rattle.stored.specs.Fields.{field_value}
 use Rattle.stored.specs.Records.{stored_moves}
-use borrow.Author.Rules.{rules}
 use Rattle.stored.proofs.record.stored_moves.Goals as goal
 
 pub returns : goal.returns

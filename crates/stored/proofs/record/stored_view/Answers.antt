@@ -4,7 +4,6 @@ use mathlib.Core.List.{List}
 use Prim.Native.Nat.{ℕ}
 use lib.ListN.{get_or}
 use Rattle.stored.specs.Records.{stored_view}
-use borrow.Author.Rules.{rules}
 use Rattle.stored.proofs.record.stored_view.Goals as goal
 
 pub returns : goal.returns

@@ -1,6 +1,5 @@
 -- `stored::refusal::back_refusal` meets its contract: what it calls says it. Assumes nothing.
 use Rattle.stored.specs.Records.{back_refusal}
-use borrow.Author.Rules.{rules}
 use Rattle.stored.proofs.refusal.back_refusal.Goals as goal
 
 pub returns : goal.returns

@@ -2,10 +2,9 @@
 use mathlib.Core.Path.{ap, sym, ◌∙◌}
 use Prim.Native.Nat.{ℕ}
 use lib.Dec.{leb}
-use borrow.Author.Tests.{eq-eqb, ne_eqb, not-true, not-false}
+use borrow.Author.Tests.{eq-eqb, ne_eqb}
 use Rattle.stored.specs.Fields.{field_length}
 use Rattle.stored.specs.Records.{begins_with_view}
-use borrow.Author.Rules.{rules}
 use Rattle.stored.proofs.refusal.begins_with_view.Goals as goal
 
 pub returns-then-not-has_field : goal.returns-then-not-has_field

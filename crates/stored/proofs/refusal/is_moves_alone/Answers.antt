@@ -4,9 +4,7 @@ use mathlib.Core.List.{List}
 use Prim.Native.Nat.{ℕ}
 use lib.Dec.{eqb}
 use lib.ListN.{length}
-use borrow.Author.Tests.{not-true, not-false}
 use Rattle.stored.specs.Records.{is_moves_alone}
-use borrow.Author.Rules.{rules}
 use Rattle.stored.proofs.refusal.is_moves_alone.Goals as goal
 
 pub returns-then-not-has_field : goal.returns-then-not-has_field

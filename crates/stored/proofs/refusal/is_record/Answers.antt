@@ -1,8 +1,6 @@
 -- `stored::refusal::is_record` meets its contract: the view's field, then what is behind it. Assumes nothing.
 use mathlib.Core.Path.{ap, sym, ◌∙◌}
-use borrow.Author.Tests.{not-true, not-false}
 use Rattle.stored.specs.Records.{is_moves_alone, is_record}
-use borrow.Author.Rules.{rules}
 use Rattle.stored.proofs.refusal.is_record.Goals as goal
 
 pub returns-then-not-begins_with_view : goal.returns-then-not-begins_with_view

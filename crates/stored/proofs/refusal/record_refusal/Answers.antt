@@ -1,6 +1,5 @@
 -- `stored::refusal::record_refusal` meets its contract: what it calls says it. Assumes nothing.
 use Rattle.stored.specs.Records.{record_refusal}
-use borrow.Author.Rules.{rules}
 use Rattle.stored.proofs.refusal.record_refusal.Goals as goal
 
 pub returns : goal.returns

@@ -1,6 +1,5 @@
 -- `stored::refusal::tagged_refusal` meets its contract: what it calls says it. Assumes nothing.
 use Rattle.stored.specs.Records.{tagged_refusal}
-use borrow.Author.Rules.{rules}
 use Rattle.stored.proofs.refusal.tagged_refusal.Goals as goal
 
 pub returns : goal.returns

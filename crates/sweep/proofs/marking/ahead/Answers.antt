@@ -1,7 +1,6 @@
 -- `sweep::marking::ahead` meets its contract: a step on. Assumes nothing.
 use native.Mathlib.Omega.{arith}
-use Rattle.sweep.proofs.Steps.{near, says-ahead}
-use borrow.Author.Rules.{rules}
+use Rattle.sweep.proofs.Steps.{says-ahead}
 use Rattle.sweep.proofs.marking.ahead.Goals as goal
 
 pub returns : goal.returns

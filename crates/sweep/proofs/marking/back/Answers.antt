@@ -1,7 +1,6 @@
 -- `sweep::marking::back` meets its contract: a step back. Assumes nothing.
 use native.Mathlib.Omega.{arith}
-use Rattle.sweep.proofs.Steps.{near, says_back}
-use borrow.Author.Rules.{rules}
+use Rattle.sweep.proofs.Steps.{says_back}
 use Rattle.sweep.proofs.marking.back.Goals as goal
 
 pub returns : goal.returns

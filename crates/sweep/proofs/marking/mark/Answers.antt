@@ -3,7 +3,6 @@ use mathlib.Core.Path.{◌∙◌}
 use lib.Dec.{lit<}
 use Rattle.rules.proofs.Bits.{mask-ext, bit-none}
 use Rattle.masks.proofs.Windows.{below, one16, and-on, and-off}
-use borrow.Author.Rules.{rules}
 use Rattle.sweep.proofs.marking.mark.Goals as goal
 
 pub returns-then-on : goal.returns-then-on

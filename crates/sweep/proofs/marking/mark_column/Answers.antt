@@ -1,11 +1,10 @@
 -- `sweep::marking::mark_column` meets its contract: after y turns the codes below 15 x + y are marked. Assumes nothing.
 use mathlib.Core.Path.{◌≡◌, ap, ◌∙◌}
-use Prim.Native.Nat.{ℕ, ◌≤◌, ◌+◌, ◌-◌}
+use Prim.Native.Nat.{ℕ, ◌+◌}
 use native.Mathlib.Omega.{arith}
 use Rattle.rules.specs.Point.{code_of}
 use Rattle.sweep.specs.Marks.{marks, codes_below, has_value}
 use Rattle.sweep.proofs.Marks.{marks-more}
-use borrow.Author.Rules.{rules}
 use Rattle.sweep.proofs.marking.mark_column.Goals as goal
 
 pub loop-y-preserved : goal.loop-y-preserved

@@ -1,11 +1,8 @@
 -- `sweep::marking::mark_column` meets its contract: after y turns the codes below 15 x + y are marked. Assumes nothing.
-use mathlib.Core.Path.{◌≡◌, ap, ◌∙◌}
-use Prim.Native.Nat.{ℕ, ◌≤◌, ◌+◌, ◌-◌}
-use native.Mathlib.Omega.{arith}
+use mathlib.Core.Path.{◌≡◌}
+use Prim.Native.Nat.{◌≤◌, ◌-◌}
 use Rattle.rules.specs.Point.{code_of}
 use Rattle.sweep.specs.Marks.{marks, codes_below, has_value}
-use Rattle.sweep.proofs.Marks.{marks-more}
-use borrow.Author.Rules.{rules}
 use Rattle.sweep.proofs.marking.mark_column.Given as goal
 
 abbrev pub invariant-loop-y : goal.invariant-loop-y

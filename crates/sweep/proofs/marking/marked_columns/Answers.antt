@@ -1,14 +1,12 @@
 -- `sweep::marking::marked_columns` meets its contract: after i turns it has the columns that the first i masks mark. Assumes nothing.
-use mathlib.Core.Path.{◌≡◌, ap, ◌∙◌}
+use mathlib.Core.Path.{ap, ◌∙◌}
 use mathlib.Core.Bool.{Bool, ◌||◌}
-use Prim.Native.Nat.{ℕ, ◌≤◌, ◌-◌}
+use Prim.Native.Nat.{ℕ}
 use native.Mathlib.Omega.{arith}
 use lib.ListN.{get_or}
-use Rattle.rules.specs.Tools.{any_below}
-use Rattle.rules.specs.Bit.{bit, mask_of}
+use Rattle.rules.specs.Bit.{bit}
 use Rattle.rules.proofs.Bits.{mask-cong, bit_mask}
 use Rattle.masks.proofs.Windows.{spread_none, spread-more}
-use borrow.Author.Rules.{rules}
 use Rattle.sweep.proofs.marking.marked_columns.Goals as goal
 
 pub loop-i-init : goal.loop-i-init

@@ -1,14 +1,9 @@
 -- `sweep::marking::marked_columns` meets its contract: after i turns it has the columns that the first i masks mark. Assumes nothing.
-use mathlib.Core.Path.{◌≡◌, ap, ◌∙◌}
-use mathlib.Core.Bool.{Bool, ◌||◌}
-use Prim.Native.Nat.{ℕ, ◌≤◌, ◌-◌}
-use native.Mathlib.Omega.{arith}
+use mathlib.Core.Path.{◌≡◌}
+use Prim.Native.Nat.{◌≤◌, ◌-◌}
 use lib.ListN.{get_or}
 use Rattle.rules.specs.Tools.{any_below}
 use Rattle.rules.specs.Bit.{bit, mask_of}
-use Rattle.rules.proofs.Bits.{mask-cong, bit_mask}
-use Rattle.masks.proofs.Windows.{spread_none, spread-more}
-use borrow.Author.Rules.{rules}
 use Rattle.sweep.proofs.marking.marked_columns.Given as goal
 
 abbrev pub invariant-loop-i : goal.invariant-loop-i

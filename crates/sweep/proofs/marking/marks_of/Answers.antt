@@ -1,11 +1,10 @@
 -- `sweep::marking::marks_of` meets its contract: after x turns the codes below 15 x are marked. Assumes nothing.
 use mathlib.Core.Path.{◌≡◌, ap, ◌∙◌}
-use Prim.Native.Nat.{ℕ, ◌≤◌, ◌+◌, ◌*◌, ◌-◌}
+use Prim.Native.Nat.{ℕ, ◌*◌}
 use native.Mathlib.Omega.{arith}
 use Rattle.lent.specs.Lists.{zeros}
 use Rattle.sweep.specs.Marks.{marks, codes_below, has_value}
 use Rattle.sweep.proofs.Marks.{codes-none, codes_all}
-use borrow.Author.Rules.{rules}
 use Rattle.sweep.proofs.marking.marks_of.Goals as goal
 
 pub loop-x-init : goal.loop-x-init

@@ -2,13 +2,8 @@
 -- h, a and d the rows of a direction, t the loop's test, o and f the Overlinings and the Swords through the points. Assumes nothing.
 use mathlib.Core.Path.{◌≡◌}
 use Prim.Native.Nat.{◌≤◌, ◌-◌}
-use native.Mathlib.Omega.{arith}
-use Rattle.lent.specs.Lists.{zeros}
 use Rattle.sweep.specs.Marks.{row_mask, asked_at, is_marked, AllRows}
-use Rattle.sweep.proofs.Marks.{as-marked, rows_start, rows_more, rows_end}
-use Rattle.sweep.proofs.Board.{asked-row}
 use Rattle.cells.proofs.Filled.{filled}
-use borrow.Author.Rules.{rules}
 use Rattle.sweep.proofs.points.sweep_board.Given as goal
 
 abbrev pub invariant-loop-i : goal.invariant-loop-i

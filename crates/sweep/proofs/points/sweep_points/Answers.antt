@@ -1,7 +1,6 @@
 -- `sweep::points::sweep_points` meets its contract. Assumes nothing.
 use Rattle.lent.specs.Lists.{zeros}
 use Rattle.sweep.proofs.Board.{asked-none}
-use borrow.Author.Rules.{rules}
 use Rattle.sweep.proofs.points.sweep_points.Goals as goal
 
 pub returns-then-cells-ne225 : goal.returns-then-cells-ne225

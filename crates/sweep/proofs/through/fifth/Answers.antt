@@ -1,5 +1,4 @@
 -- `sweep::through::fifth` meets its contract. Assumes nothing.
-use borrow.Author.Rules.{rules}
 use Rattle.sweep.proofs.Marks.{says_all, says-and}
 use Rattle.sweep.proofs.through.fifth.Goals as goal
 

@@ -1,7 +1,6 @@
 -- `sweep::through::met_at` meets its contract. Assumes nothing.
 use Rattle.sweep.proofs.Marks.{says-as, says-and, says-or}
 use Rattle.sweep.proofs.Meeting.{some-met, apart-met}
-use borrow.Author.Rules.{rules}
 use Rattle.sweep.proofs.through.met_at.Goals as goal
 
 pub returns-clause-some : goal.returns-clause-some

@@ -1,7 +1,6 @@
 -- `sweep::through::more_at` meets its contract: rows in two of the four directions, or apart in one. Assumes nothing.
 use Rattle.sweep.specs.Marks.{cells_if, marks_in}
 use Rattle.sweep.proofs.Meeting.{says-more}
-use borrow.Author.Rules.{rules}
 use Rattle.sweep.proofs.through.more_at.Goals as goal
 
 pub returns : goal.returns

@@ -1,7 +1,6 @@
 -- `sweep::through::some_at` meets its contract: a row in one of the four directions. Assumes nothing.
 use Rattle.sweep.specs.Marks.{cells_if, marks_in}
 use Rattle.sweep.proofs.Meeting.{says_some}
-use borrow.Author.Rules.{rules}
 use Rattle.sweep.proofs.through.some_at.Goals as goal
 
 pub returns : goal.returns

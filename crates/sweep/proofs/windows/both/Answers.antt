@@ -2,7 +2,6 @@
 use native.Mathlib.Omega.{arith}
 use Rattle.sweep.specs.Marks.{pair_from}
 use Rattle.sweep.proofs.Marks.{marks-row, row-and}
-use borrow.Author.Rules.{rules}
 use Rattle.sweep.proofs.windows.both.Goals as goal
 
 pub returns : goal.returns

@@ -2,7 +2,6 @@
 use Rattle.masks.proofs.Windows.{below}
 use Rattle.sweep.proofs.Marks.{says-as, says-or, says-not}
 use Rattle.sweep.proofs.Starts.{free-here}
-use borrow.Author.Rules.{rules}
 use Rattle.sweep.proofs.windows.none_of.Goals as goal
 
 pub returns : goal.returns

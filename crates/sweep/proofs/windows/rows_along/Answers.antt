@@ -1,13 +1,9 @@
 -- `sweep::windows::rows_along` meets its contract, mask by mask. Assumes nothing.
-use mathlib.Core.Path.{◌≡◌}
-use Prim.Native.Nat.{◌≤◌, ◌-◌}
 use native.Mathlib.Omega.{arith}
-use Rattle.rules.specs.declared.RowKind.TheVariants.{Two, Overlining}
 use Rattle.lent.specs.Lists.{zeros}
-use Rattle.sweep.specs.Marks.{row_mask, marks, is_marked, Scored, row_from}
+use Rattle.sweep.specs.Marks.{is_marked}
 use Rattle.sweep.proofs.Marks.{as-marked, rows_start, rows_more, rows_end}
 use Rattle.sweep.proofs.Starts.{two-row, overlining-row, sword-rows}
-use Rattle.cells.proofs.Filled.{filled}
 use borrow.Author.Rules.{rules}
 use Rattle.sweep.proofs.windows.rows_along.Goals as goal
 

@@ -1,11 +1,7 @@
 -- `sweep::windows::windows_in` meets its contract, mask by mask. Assumes nothing.
-use Prim.Native.Nat.{◌≤◌, ◌-◌}
 use native.Mathlib.Omega.{arith}
 use Rattle.lent.specs.Lists.{zeros}
-use Rattle.sweep.specs.Marks.{row_mask, is_marked, Scored}
 use Rattle.sweep.proofs.Marks.{rows_start, rows_more, rows_end}
-use Rattle.cells.proofs.Filled.{filled}
-use borrow.Author.Rules.{rules}
 use Rattle.sweep.proofs.windows.windows_in.Goals as goal
 
 pub loop-i-init : goal.loop-i-init

@@ -1,6 +1,5 @@
 -- `text::boards::read_diagram` meets its contract: the board of the cells that are read. Assumes nothing.
 use mathlib.Core.Path.{◌∙◌}
-use borrow.Author.Rules.{rules}
 use Rattle.board.proofs.Given.{read-given}
 use Rattle.text.proofs.Sound.{diagram-text-ok}
 use Rattle.text.proofs.boards.read_diagram.Goals as goal

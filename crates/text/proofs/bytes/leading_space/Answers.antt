@@ -1,11 +1,8 @@
 -- `text::bytes::leading_space` meets its contract: the bytes below i are white space. Assumes nothing.
-use mathlib.Core.Path.{◌≡◌, ap, sym, ◌∙◌}
+use mathlib.Core.Path.{ap, sym, ◌∙◌}
 use mathlib.Core.Bool.{not}
-use Prim.Native.Nat.{◌+◌, ◌≤◌, ◌-◌}
+use Prim.Native.Nat.{◌-◌}
 use native.Mathlib.Omega.{arith}
-use lib.ListN.{length, drop}
-use borrow.Author.Rules.{rules}
-use Rattle.text.specs.Bytes.{leading}
 use Rattle.lent.proofs.Found.{first-hit, first_step, first-end}
 use Rattle.text.proofs.bytes.leading_space.Goals as goal
 

@@ -1,11 +1,8 @@
 -- `text::bytes::stop` meets its contract: the bytes from i on are white space. Assumes nothing.
 use mathlib.Core.Path.{◌≡◌, ap, sym, ◌∙◌}
-use Prim.Native.Nat.{ℕ, ◌≤◌}
+use Prim.Native.Nat.{ℕ}
 use native.Mathlib.Omega.{arith}
 use lib.ListN.{length, take}
-use lib.Seq.{take-length}
-use borrow.Author.Tests.{not-true, not-false}
-use borrow.Author.Rules.{rules}
 use Rattle.text.specs.Bytes.{trim_end}
 use Rattle.text.proofs.Places.{end-hit, end_step, end_none}
 use Rattle.text.proofs.bytes.stop.Goals as goal

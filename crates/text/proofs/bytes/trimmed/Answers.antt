@@ -4,7 +4,6 @@ use Prim.Native.Nat.{ℕ}
 use lib.ListN.{take, drop}
 use Rattle.text.specs.Bytes.{trim, trim_end}
 use Rattle.text.proofs.Places.{end_take, trim_start_lem}
-use borrow.Author.Rules.{rules}
 use Rattle.text.proofs.bytes.trimmed.Goals as goal
 
 pub returns : goal.returns

@@ -1,5 +1,4 @@
 -- `text::diagram::count_refusal` meets its contract: what it calls says it. Assumes nothing.
-use borrow.Author.Rules.{rules}
 use Rattle.text.specs.Reading.{count_refusal}
 use Rattle.text.proofs.diagram.count_refusal.Goals as goal
 

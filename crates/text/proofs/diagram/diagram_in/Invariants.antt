@@ -1,17 +1,9 @@
 -- `text::diagram::diagram_in` meets its contract: k lines are read, and the text from i on has the others. Assumes nothing.
-use mathlib.Core.Path.{◌≡◌, refl, ap, ◌∙◌}
-use mathlib.Core.List.{[]}
-use Prim.Native.Nat.{ℕ, ◌≤◌, ◌-◌, ◌+◌}
-use native.Mathlib.Omega.{arith}
+use mathlib.Core.Path.{◌≡◌}
+use Prim.Native.Nat.{◌≤◌, ◌-◌}
 use lib.ListN.{length, drop}
-use borrow.Author.Rules.{rules}
-use Rattle.lent.specs.Lists.{zeros}
-use Rattle.cells.specs.Answers.{cells_answer}
 use Rattle.text.specs.Bytes.{newline, parts}
-use Rattle.text.specs.Reading.{diagram_cells}
-use Rattle.text.proofs.Marks.{next-in, next-is, next-rest, next-none}
-use Rattle.text.proofs.Items.{part-some, part-last, part-more, part_in}
-use Rattle.text.proofs.Lined.{Lined, lined-none, lined-long, lined-more, lined-done, refused_as}
+use Rattle.text.proofs.Lined.{Lined}
 use Rattle.text.proofs.diagram.diagram_in.Given as goal
 
 abbrev pub invariant-loop-rest : goal.invariant-loop-rest

@@ -1,6 +1,5 @@
 -- `text::diagram::put_letter` meets its contract. Assumes nothing.
 use native.Mathlib.Omega.{arith}
-use borrow.Author.Rules.{rules}
 use borrow.Author.Tests.{lt-ltb, le-ltb}
 use Rattle.text.specs.Rows.{letter_put}
 use Rattle.text.proofs.diagram.put_letter.Goals as goal

@@ -1,6 +1,5 @@
 -- `text::diagram::read_diagram_cells` meets its contract: refused as any text is, or read. Assumes nothing.
 use mathlib.Core.Path.{sym, ◌∙◌}
-use borrow.Author.Rules.{rules}
 use borrow.Author.Tests.{eq-eqb}
 use Rattle.rules.specs.Refusals.{first}
 use Rattle.text.specs.Bytes.{text_refusal}

@@ -1,14 +1,9 @@
 -- `text::diagram::row_in` meets its contract: x cells are put, and the text from i on has the others. Assumes nothing.
-use mathlib.Core.Path.{◌≡◌, refl, ap, sym, ◌∙◌}
-use mathlib.Core.List.{List}
-use Prim.Native.Nat.{ℕ, ◌+◌, ◌≤◌, ◌-◌}
-use native.Mathlib.Omega.{arith}
+use mathlib.Core.Path.{◌≡◌}
+use Prim.Native.Nat.{◌+◌, ◌≤◌, ◌-◌}
 use lib.ListN.{length, drop}
-use borrow.Author.Rules.{rules}
 use Rattle.text.specs.Bytes.{dense}
 use Rattle.text.specs.Rows.{row_put}
-use Rattle.text.proofs.Marks.{dense-space, dense-cell, dense-end}
-use Rattle.text.proofs.Lined.{row_step, row-end}
 use Rattle.text.proofs.diagram.row_in.Given as goal
 
 abbrev pub invariant-loop-i : goal.invariant-loop-i

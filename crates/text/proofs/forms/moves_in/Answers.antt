@@ -1,6 +1,5 @@
 -- `text::forms::moves_in` meets its contract: what it calls says it. Assumes nothing.
 use mathlib.Core.Path.{◌∙◌}
-use borrow.Author.Rules.{rules}
 use Rattle.text.specs.Reading.{moves_in}
 use Rattle.text.proofs.Lined.{refused_as}
 use Rattle.text.proofs.Said.{list-refusal, codes-are, codes-pass}

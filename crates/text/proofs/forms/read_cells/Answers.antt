@@ -2,7 +2,6 @@
 use mathlib.Core.Path.{ap, sym, ◌∙◌}
 use native.Mathlib.Omega.{arith}
 use lib.ListN.{length}
-use borrow.Author.Rules.{rules}
 use Rattle.text.specs.Reading.{read_refusal, read_cells}
 use Rattle.text.proofs.Places.{trim-le}
 use Rattle.text.proofs.Said.{text-short, text-refused, read-stones, read-moves}

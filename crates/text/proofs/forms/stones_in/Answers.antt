@@ -1,13 +1,10 @@
 -- `text::forms::stones_in` meets its contract: what it calls says it. Assumes nothing.
 use mathlib.Core.Path.{ap, ◌∙◌}
 use Prim.Native.Nat.{ℕ}
-use native.Mathlib.Omega.{arith}
-use lib.ListN.{length}
-use borrow.Author.Rules.{rules}
 use Rattle.cells.specs.Answers.{cells_answer}
 use Rattle.text.specs.Bytes.{slash}
 use Rattle.text.specs.Reading.{stones_in}
-use Rattle.text.proofs.Places.{two-lists, take-le, drop_le}
+use Rattle.text.proofs.Places.{two-lists}
 use Rattle.text.proofs.Lined.{refused_as}
 use Rattle.text.proofs.Said.{stones-told, stones-said}
 use Rattle.text.proofs.forms.stones_in.Goals as goal

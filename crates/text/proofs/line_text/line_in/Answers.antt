@@ -1,11 +1,9 @@
 -- `text::line_text::line_in` meets its contract: x cells are read, and the text from i on has the others. Assumes nothing.
-use mathlib.Core.Path.{◌≡◌, refl, sym, ◌∙◌}
-use Prim.Native.Nat.{◌≤◌, ◌-◌}
+use mathlib.Core.Path.{refl, sym, ◌∙◌}
+use Prim.Native.Nat.{◌-◌}
 use native.Mathlib.Omega.{arith}
-use lib.ListN.{length, drop}
-use borrow.Author.Rules.{rules}
 use Rattle.text.specs.Bytes.{small_o, small_x, dense}
-use Rattle.text.proofs.Marks.{marked_to, marked-none, marked_more, dense-space, dense-cell, dense-end, next-in, next-is, next-rest}
+use Rattle.text.proofs.Marks.{marked-none, marked_more, dense-space, dense-cell, dense-end, next-in, next-is, next-rest}
 use Rattle.text.proofs.Marks.{row-said, row-long}
 use Rattle.text.proofs.line_text.line_in.Goals as goal
 

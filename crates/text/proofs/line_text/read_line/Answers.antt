@@ -1,6 +1,5 @@
 -- `text::line_text::read_line` meets its contract: what it calls says it. Assumes nothing.
 use mathlib.Core.Path.{◌∙◌}
-use borrow.Author.Rules.{rules}
 use Rattle.text.proofs.Marks.{row-given}
 use Rattle.text.proofs.line_text.read_line.Goals as goal
 

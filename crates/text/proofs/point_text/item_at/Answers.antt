@@ -1,6 +1,5 @@
 -- `text::point_text::item_at` meets its contract: its ways are the refusals in order, then the code. Assumes nothing.
 use native.Mathlib.Omega.{arith}
-use borrow.Author.Rules.{rules}
 use borrow.Author.Tests.{le-leb, lt-leb, lt-ltb, le-ltb}
 use Rattle.rules.specs.Refusals.{first, unless}
 use Rattle.text.specs.Points.{place_refusal, refused_item, item_at}

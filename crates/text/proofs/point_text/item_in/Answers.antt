@@ -1,5 +1,4 @@
 -- `text::point_text::item_in` meets its contract: what it calls says it. Assumes nothing.
-use borrow.Author.Rules.{rules}
 use Rattle.text.specs.Points.{column_in, row_in}
 use Rattle.text.proofs.point_text.item_in.Goals as goal
 

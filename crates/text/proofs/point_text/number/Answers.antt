@@ -1,7 +1,6 @@
 -- `text::point_text::number` meets its contract: one digit, two, or no number. Assumes nothing.
 use mathlib.Core.Path.{sym, ◌∙◌}
 use native.Mathlib.Omega.{arith}
-use borrow.Author.Rules.{rules}
 use Rattle.text.proofs.Items.{number-one, number-two, number-none}
 use Rattle.text.proofs.point_text.number.Goals as goal
 

@@ -1,6 +1,5 @@
 -- `text::point_text::read_point` meets its contract: what it calls says it. Assumes nothing.
 use mathlib.Core.Path.{◌∙◌}
-use borrow.Author.Rules.{rules}
 use Rattle.text.proofs.Items.{item-given}
 use Rattle.text.proofs.point_text.read_point.Goals as goal
 

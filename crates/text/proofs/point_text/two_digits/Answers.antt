@@ -1,6 +1,5 @@
 -- `text::point_text::two_digits` meets its contract: each of the two counts at most 16, so the number fits. Assumes nothing.
 use native.Mathlib.Omega.{arith}
-use borrow.Author.Rules.{rules}
 use Rattle.text.proofs.Items.{digit-small}
 use Rattle.text.proofs.point_text.two_digits.Goals as goal
 

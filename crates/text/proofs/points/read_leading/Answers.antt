@@ -1,6 +1,5 @@
 -- `text::points::read_leading` meets its contract: its ways are the cases of the definition. Assumes nothing.
 use mathlib.Core.Path.{sym, ◌∙◌}
-use borrow.Author.Rules.{rules}
 use borrow.Author.Tests.{eq-eqb, ne_eqb}
 use Rattle.text.specs.Bytes.{text_refusal}
 use Rattle.text.specs.Points.{leading_found}

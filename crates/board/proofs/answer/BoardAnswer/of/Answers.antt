@@ -1,5 +1,4 @@
 -- `board::answer::BoardAnswer::of` meets its contract: the board, or the number and an empty board. Assumes nothing.
-use borrow.Author.Rules.{rules}
 use borrow.Author.Tests.{eq-eqb, ne_eqb}
 use Rattle.board.specs.Answers.{answer_with}
 use Rattle.board.proofs.answer.BoardAnswer.of.Goals as goal

@@ -1,6 +1,5 @@
 -- `board::board::Board::from_cells` meets its contract: the lines are those of the bytes. Assumes nothing.
 use Rattle.board.proofs.Given.{board-given, from-lines}
-use borrow.Author.Rules.{rules}
 use Rattle.board.proofs.board.Board.from_cells.Goals as goal
 
 pub returns : goal.returns

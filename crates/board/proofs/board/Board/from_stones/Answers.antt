@@ -2,7 +2,6 @@
 use mathlib.Core.Path.{◌∙◌}
 use Rattle.cells.proofs.Given.{stones-ok}
 use Rattle.board.proofs.Given.{read-given}
-use borrow.Author.Rules.{rules}
 use Rattle.board.proofs.board.Board.from_stones.Goals as goal
 
 pub returns : goal.returns

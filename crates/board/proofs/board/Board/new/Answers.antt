@@ -3,7 +3,6 @@ use mathlib.Core.Path.{◌∙◌}
 use Rattle.lent.specs.Lists.{zeros}
 use Rattle.grid.proofs.Lines.{lines-zeros}
 use Rattle.board.proofs.Given.{from-lines}
-use borrow.Author.Rules.{rules}
 use Rattle.board.proofs.board.Board.new.Goals as goal
 
 pub returns : goal.returns

@@ -1,6 +1,5 @@
 -- `board::board::Board::read` meets its contract: the lines are those of the cells that were read. Assumes nothing.
 use Rattle.board.proofs.Given.{board-given, from-lines}
-use borrow.Author.Rules.{rules}
 use Rattle.board.proofs.board.Board.read.Goals as goal
 
 pub returns : goal.returns

@@ -1,6 +1,5 @@
 -- `board::board::Board::refusal_at` meets its contract: what it calls says it. Assumes nothing.
 use Rattle.board.specs.Boards.{refusal_at}
-use borrow.Author.Rules.{rules}
 use Rattle.board.proofs.board.Board.refusal_at.Goals as goal
 
 pub returns : goal.returns

@@ -1,5 +1,4 @@
 -- `board::board::Board::refusal_for` meets its contract: what it calls says it. Assumes nothing.
-use borrow.Author.Rules.{rules}
 use Rattle.board.specs.Boards.{refusal_for}
 use Rattle.board.proofs.board.Board.refusal_for.Goals as goal
 

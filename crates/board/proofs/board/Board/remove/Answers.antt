@@ -2,7 +2,6 @@
 -- Assumes nothing.
 use mathlib.Core.Path.{refl}
 use Rattle.board.proofs.Given.{board-given, changed-board, at_none}
-use borrow.Author.Rules.{rules}
 use Rattle.board.proofs.board.Board.remove.Goals as goal
 
 pub returns : goal.returns

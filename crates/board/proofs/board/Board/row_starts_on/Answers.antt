@@ -1,7 +1,6 @@
 -- `board::board::Board::row_starts_on` meets its contract: on sound lines these are the rows through the point. Assumes nothing.
 use Rattle.board.proofs.Given.{starts-given, rows-on-in}
 use Rattle.grid.proofs.RowStarts.{starts-masks}
-use borrow.Author.Rules.{rules}
 use Rattle.board.proofs.board.Board.row_starts_on.Goals as goal
 
 pub returns : goal.returns

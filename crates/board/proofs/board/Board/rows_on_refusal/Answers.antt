@@ -1,5 +1,4 @@
 -- `board::board::Board::rows_on_refusal` meets its contract: what it calls says it. Assumes nothing.
-use borrow.Author.Rules.{rules}
 use Rattle.board.specs.Boards.{rows_on_refusal}
 use Rattle.board.proofs.board.Board.rows_on_refusal.Goals as goal
 

@@ -1,7 +1,6 @@
 -- `board::board::Board::stone` meets its contract: the cell that the lines show. Assumes nothing.
 use Rattle.grid.proofs.Lines.{cell-on}
 use Rattle.board.proofs.Given.{stone-given, at_in}
-use borrow.Author.Rules.{rules}
 use Rattle.board.proofs.board.Board.stone.Goals as goal
 
 pub returns : goal.returns

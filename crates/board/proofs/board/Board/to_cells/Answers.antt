@@ -5,7 +5,6 @@ use Rattle.rules.specs.Answers.{number_answer}
 use Rattle.lent.specs.Lists.{list_refusal, list_out}
 use Rattle.grid.specs.Lines.{cells_of}
 use Rattle.board.proofs.Given.{cells_out}
-use borrow.Author.Rules.{rules}
 use Rattle.board.proofs.board.Board.to_cells.Goals as goal
 
 pub returns : goal.returns

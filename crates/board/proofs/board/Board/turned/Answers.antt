@@ -1,7 +1,6 @@
 -- `board::board::Board::turned` meets its contract: the lines of the turned cells. Assumes nothing.
 use mathlib.Core.Path.{refl}
 use Rattle.board.proofs.Given.{board-given, from-lines}
-use borrow.Author.Rules.{rules}
 use Rattle.board.proofs.board.Board.turned.Goals as goal
 
 pub returns : goal.returns

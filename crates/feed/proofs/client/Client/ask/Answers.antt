@@ -3,7 +3,6 @@ use mathlib.Core.Path.{ap}
 use Prim.Native.Nat.{ℕ}
 use Rattle.feed.specs.declared.message.Answer.{Answer}
 use Rattle.feed.specs.Feed.{answer_of}
-use borrow.Author.Rules.{rules}
 use Rattle.feed.proofs.client.Client.ask.Goals as goal
 
 pub returns : goal.returns

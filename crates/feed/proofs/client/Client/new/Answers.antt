@@ -3,7 +3,6 @@ use mathlib.Core.Path.{ap}
 use Rattle.feed.specs.declared.moves.Moves.{Moves}
 use Rattle.feed.specs.declared.client.Client.{Client}
 use Rattle.feed.specs.Feed.{new_client}
-use borrow.Author.Rules.{rules}
 use Rattle.feed.proofs.client.Client.new.Goals as goal
 
 pub returns : goal.returns

@@ -5,7 +5,6 @@ use native.Mathlib.Omega.{arith}
 use borrow.Author.Tests.{eq-eqb, ne_eqb}
 use Rattle.feed.specs.declared.moves.Moves.{Moves}
 use Rattle.feed.specs.Feed.{take_refusal, refusal_by, after, answer_of, takes}
-use borrow.Author.Rules.{rules}
 use Rattle.feed.proofs.client.Client.take.Goals as goal
 
 pub returns-then-refused-ne0 : goal.returns-then-refused-ne0

@@ -8,7 +8,6 @@ use lib.Seq.{length-take-le}
 use Rattle.cells.specs.Cells.{codes_refusal, moves_cells}
 use Rattle.cells.specs.Answers.{cells_answer}
 use Rattle.feed.proofs.Lists.{size-least, list-size}
-use borrow.Author.Rules.{rules}
 use Rattle.feed.proofs.moves.Moves.cells.Goals as goal
 
 pub slice_bounds-codes-end : goal.slice_bounds-codes-end

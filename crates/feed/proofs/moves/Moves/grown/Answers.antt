@@ -6,7 +6,6 @@ use lib.ListN.{set}
 use borrow.Author.Tests.{lt-ltb, le-ltb}
 use Rattle.feed.specs.declared.moves.Moves.{Moves}
 use Rattle.feed.specs.Feed.{size_of, grown}
-use borrow.Author.Rules.{rules}
 use Rattle.feed.proofs.moves.Moves.grown.Goals as goal
 
 pub returns-then-n-ge225 : goal.returns-then-n-ge225

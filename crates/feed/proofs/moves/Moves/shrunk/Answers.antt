@@ -4,7 +4,6 @@ use Prim.Native.Nat.{ℕ, ◌-◌}
 use native.Mathlib.Omega.{arith}
 use Rattle.feed.specs.declared.moves.Moves.{Moves}
 use Rattle.feed.specs.Feed.{size_of, shrunk}
-use borrow.Author.Rules.{rules}
 use Rattle.feed.proofs.moves.Moves.shrunk.Goals as goal
 
 pub returns-then-n-eq0 : goal.returns-then-n-eq0

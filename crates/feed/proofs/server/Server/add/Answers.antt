@@ -4,7 +4,6 @@ use Prim.Native.Nat.{ℕ}
 use native.Mathlib.Omega.{arith}
 use borrow.Author.Tests.{eq-eqb, ne_eqb}
 use Rattle.feed.specs.Feed.{size_of, add_refusal, adds_to}
-use borrow.Author.Rules.{rules}
 use Rattle.feed.proofs.server.Server.add.Goals as goal
 
 pub returns-then-refused-ne0 : goal.returns-then-refused-ne0

@@ -2,7 +2,6 @@
 use mathlib.Core.Path.{◌≡◌, ap, sym, ◌∙◌}
 use Prim.Native.Nat.{ℕ, max}
 use native.Mathlib.Omega.{arith}
-use borrow.Author.Rules.{rules}
 use Rattle.feed.specs.declared.server.Server.{Server}
 use Rattle.feed.proofs.Taking.{hears-own, hears-other, hears-over}
 use Rattle.feed.proofs.server.Server.hear.Goals as goal

@@ -3,7 +3,6 @@ use mathlib.Core.Path.{ap}
 use Prim.Native.Nat.{ℕ}
 use lib.Dec.{eqb}
 use Rattle.feed.specs.Feed.{holds_all}
-use borrow.Author.Rules.{rules}
 use Rattle.feed.proofs.server.Server.holds_all.Goals as goal
 
 pub returns : goal.returns

@@ -6,7 +6,6 @@ use borrow.Author.Tests.{le-leb, lt-leb}
 use Rattle.feed.specs.declared.server.MessageAnswer.{MessageAnswer}
 use Rattle.feed.specs.declared.server.MessageAnswer.TheVariants.{Is}
 use Rattle.feed.specs.Feed.{size_of, has_move, message_answer}
-use borrow.Author.Rules.{rules}
 use Rattle.feed.proofs.server.Server.message.Goals as goal
 
 pub returns-then-number-eq0 : goal.returns-then-number-eq0

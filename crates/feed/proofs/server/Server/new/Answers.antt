@@ -3,7 +3,6 @@ use mathlib.Core.Path.{ap}
 use Rattle.feed.specs.declared.moves.Moves.{Moves}
 use Rattle.feed.specs.declared.server.Server.{Server}
 use Rattle.feed.specs.Feed.{new_server}
-use borrow.Author.Rules.{rules}
 use Rattle.feed.proofs.server.Server.new.Goals as goal
 
 pub returns : goal.returns

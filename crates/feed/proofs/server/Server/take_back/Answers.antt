@@ -2,7 +2,6 @@
 use Prim.Native.Nat.{◌+◌}
 use borrow.Author.Tests.{eq-eqb, ne_eqb}
 use Rattle.feed.specs.Feed.{last_game, takes_back}
-use borrow.Author.Rules.{rules}
 use Rattle.feed.proofs.server.Server.take_back.Goals as goal
 
 pub returns-then-game : goal.returns-then-game

@@ -1,5 +1,4 @@
 -- `game::report::GameReport::refusal` meets its contract: the number, and the empty board. Assumes nothing.
-use borrow.Author.Rules.{rules}
 use Rattle.game.specs.Answers.{refused_report}
 use Rattle.game.proofs.report.GameReport.refusal.Goals as goal
 

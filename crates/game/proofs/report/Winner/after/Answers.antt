@@ -1,5 +1,4 @@
 -- `game::report::Winner::after` meets its contract. Assumes nothing.
-use borrow.Author.Rules.{rules}
 use Rattle.game.specs.Game.{won_after}
 use Rattle.game.proofs.report.Winner.after.Goals as goal
 

@@ -1,5 +1,4 @@
 -- `line::Line::cell_refusal` meets its contract: what it calls says it. Assumes nothing.
-use borrow.Author.Rules.{rules}
 use Rattle.line.specs.Lines.{cell_refusal}
 use Rattle.line.proofs.line.Line.cell_refusal.Goals as goal
 

@@ -1,5 +1,4 @@
 -- `line::Line::refusal` meets its contract: what it calls says it. Assumes nothing.
-use borrow.Author.Rules.{rules}
 use Rattle.line.specs.Lines.{line_refusal}
 use Rattle.line.proofs.line.Line.refusal.Goals as goal
 

@@ -1,5 +1,4 @@
 -- `line::Line::refusal_at` meets its contract: what it calls says it. Assumes nothing.
-use borrow.Author.Rules.{rules}
 use Rattle.line.specs.Lines.{line_refusal_at}
 use Rattle.line.proofs.line.Line.refusal_at.Goals as goal
 

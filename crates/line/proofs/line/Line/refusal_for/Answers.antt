@@ -1,5 +1,4 @@
 -- `line::Line::refusal_for` meets its contract: what it calls says it. Assumes nothing.
-use borrow.Author.Rules.{rules}
 use Rattle.line.specs.Lines.{line_refusal_for}
 use Rattle.line.proofs.line.Line.refusal_for.Goals as goal
 

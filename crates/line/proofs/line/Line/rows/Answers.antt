@@ -1,5 +1,4 @@
 -- `line::Line::rows` meets its contract: what it calls says it. Assumes nothing.
-use borrow.Author.Rules.{rules}
 use Rattle.line.specs.Lines.{line_rows_at}
 use Rattle.line.proofs.Lines.{windows-listed}
 use Rattle.line.proofs.line.Line.rows.Goals as goal

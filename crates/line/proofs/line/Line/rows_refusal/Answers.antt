@@ -1,5 +1,4 @@
 -- `line::Line::rows_refusal` meets its contract: what it calls says it. Assumes nothing.
-use borrow.Author.Rules.{rules}
 use Rattle.line.specs.Lines.{line_rows_refusal}
 use Rattle.line.proofs.line.Line.rows_refusal.Goals as goal
 

@@ -1,5 +1,4 @@
 -- `line::Line::segments` meets its contract: what it calls says it. Assumes nothing.
-use borrow.Author.Rules.{rules}
 use Rattle.rules.specs.Line.{inside}
 use Rattle.line.proofs.Lines.{windows-listed}
 use Rattle.line.proofs.line.Line.segments.Goals as goal

@@ -1,7 +1,6 @@
 -- `line::Line::start_refusal` meets its contract: its arms are the cases of the definition. Assumes nothing.
 use mathlib.Core.Path.{ap, ◌∙◌}
 use mathlib.Core.Bool.{Bool}
-use borrow.Author.Rules.{rules}
 use Rattle.rules.specs.Refusals.{unless}
 use Rattle.line.specs.Lines.{start_refusal}
 use Rattle.line.proofs.Lines.{start_none, start-some}

@@ -1,6 +1,5 @@
 -- `line::Line::stones` meets its contract: what it calls says it. Assumes nothing.
 use mathlib.Core.Path.{ap}
-use borrow.Author.Rules.{rules}
 use Rattle.rules.specs.Answers.{mask_answer}
 use Rattle.masks.proofs.Windows.{below}
 use Rattle.line.proofs.Lines.{own-mask}

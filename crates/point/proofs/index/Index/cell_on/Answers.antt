@@ -5,10 +5,9 @@ use lib.IntN.{pos}
 use mir.Facts.{to_z-of_z, to_z_pos}
 use mir.Syntax.{w16}
 use mir.Val.{to_z}
-use borrow.Author.Rules.{rules}
 use Rattle.rules.specs.Point.{line_size}
 use Rattle.rules.proofs.Address.{size-le}
-use Rattle.point.proofs.Steps.{past-start, step-cell, past_end, cell-fits}
+use Rattle.point.proofs.Steps.{past-start, step-cell, past_end}
 use Rattle.point.proofs.index.Index.cell_on.Goals as goal
 
 pub returns-then-j-lt0 : goal.returns-then-j-lt0

@@ -5,7 +5,6 @@ use lib.IntN.{ℤ, pos, ◌+ℤ◌}
 use mir.Facts.{to_z-of_z}
 use mir.Syntax.{w16}
 use mir.Val.{SFits}
-use borrow.Author.Rules.{rules}
 use borrow.Author.Tests.{eq-eqb, ne_eqb}
 use Rattle.point.specs.Answers.{offset_answer, cell_on}
 use Rattle.point.proofs.Steps.{moved-fits}

@@ -1,7 +1,6 @@
 -- `point::index::Index::offset` meets its contract: the refusal, or a cell that is on the line. Assumes nothing.
 use mathlib.Core.Path.{sym, ◌∙◌}
 use native.Mathlib.Omega.{arith}
-use borrow.Author.Rules.{rules}
 use borrow.Author.Tests.{eq-eqb, ne_eqb}
 use Rattle.point.specs.Answers.{index_answer}
 use Rattle.rules.proofs.Address.{size-le}

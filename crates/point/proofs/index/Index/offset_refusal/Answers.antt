@@ -1,5 +1,4 @@
 -- `point::index::Index::offset_refusal` meets its contract: what it calls says it. Assumes nothing.
-use borrow.Author.Rules.{rules}
 use Rattle.point.specs.Points.{offset_refusal}
 use Rattle.point.proofs.index.Index.offset_refusal.Goals as goal
 

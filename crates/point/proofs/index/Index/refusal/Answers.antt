@@ -1,5 +1,4 @@
 -- `point::index::Index::refusal` meets its contract: what it calls says it. Assumes nothing.
-use borrow.Author.Rules.{rules}
 use Rattle.point.specs.Points.{index_refusal}
 use Rattle.point.proofs.index.Index.refusal.Goals as goal
 

@@ -1,7 +1,6 @@
 -- `point::index::Index::to_point` meets its contract: the refusal, or a point of the board. Assumes nothing.
 use mathlib.Core.Path.{sym, ◌∙◌}
 use native.Mathlib.Omega.{arith}
-use borrow.Author.Rules.{rules}
 use borrow.Author.Tests.{eq-eqb, ne_eqb}
 use Rattle.rules.proofs.Address.{point-lt}
 use Rattle.point.specs.Answers.{point_answer}

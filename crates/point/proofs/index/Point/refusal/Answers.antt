@@ -1,5 +1,4 @@
 -- `point::index::Point::refusal` meets its contract: what it calls says it. Assumes nothing.
-use borrow.Author.Rules.{rules}
 use Rattle.point.specs.Points.{point_refusal}
 use Rattle.point.proofs.index.Point.refusal.Goals as goal
 

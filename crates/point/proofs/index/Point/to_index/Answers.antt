@@ -1,7 +1,6 @@
 -- `point::index::Point::to_index` meets its contract: the refusal, or the line of a code that fits. Assumes nothing.
 use mathlib.Core.Path.{sym, ◌∙◌}
 use native.Mathlib.Omega.{arith}
-use borrow.Author.Rules.{rules}
 use borrow.Author.Tests.{eq-eqb, ne_eqb}
 use Rattle.rules.proofs.Refusals.{first-none}
 use Rattle.point.specs.Answers.{index_answer}

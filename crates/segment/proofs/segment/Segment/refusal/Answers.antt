@@ -1,5 +1,4 @@
 -- `segment::Segment::refusal` meets its contract: what it calls says it. Assumes nothing.
-use borrow.Author.Rules.{rules}
 use Rattle.segment.specs.Segments.{segment_refusal}
 use Rattle.segment.proofs.segment.Segment.refusal.Goals as goal
 

@@ -1,5 +1,4 @@
 -- `segment::Segment::refusal_for` meets its contract: what it calls says it. Assumes nothing.
-use borrow.Author.Rules.{rules}
 use Rattle.segment.specs.Segments.{segment_refusal_for}
 use Rattle.segment.proofs.segment.Segment.refusal_for.Goals as goal
 
