@@ -1,7 +1,7 @@
 // Records about a whole line: its rows and eyes, its stones, and the masks for a number of stones.
 use super::asked::replay_refusals;
-use super::cells::{lists_rows, lists_segments};
 use super::fields::{colour_of, kind_of, line_of, mask, mask_of, stone_of};
+use super::line_cells::{lists_rows, lists_segments};
 use line::{Line, LineAnswer};
 use records::{answer, byte, mask_word, number_word, stone_word};
 use renju::{renju_line_eyes, renju_line_starts};

@@ -3,12 +3,12 @@
 #![tactic(auto)]
 
 mod asked;
-mod cells;
 mod fields;
+mod line_cells;
 mod lines;
 mod segments;
 
-use cells::replay_cell;
+use line_cells::replay_cell;
 use lines::{replay_eyes, replay_line, replay_number};
 use records::{answer, byte_at, count, line_at, next_line, read_records, room, say_counts};
 use segments::replay_segment;
