@@ -64,12 +64,11 @@ struct Target {
 }
 
 impl Target {
-    /// Whether the script can write for it: it writes for the machine that it runs on, which is the one
-    /// that this runs on.
+    /// Whether the script can write for it here: it runs on x86-64 Linux, and this build has it write for
+    /// that alone.
     fn is_here(&self) -> bool {
         let here = (env::consts::ARCH, env::consts::OS);
-        here == (self.arch.as_str(), self.os.as_str())
-            && matches!(here, ("x86_64" | "aarch64", "linux"))
+        here == (self.arch.as_str(), self.os.as_str()) && matches!(here, ("x86_64", "linux"))
     }
 
     /// What keeps an archive from being linked. Off Linux archives look otherwise, and the linker says it.
@@ -98,7 +97,7 @@ fn named(archive: PathBuf, target: &Target) -> Result<PathBuf, String> {
     if let Some(fault) = target.fault(&archive) {
         return Err(format!(
             "RENJU_ARCHIVE names {shown}, which {fault}. Name one that rust/renju/archive wrote from the \
-             same commit as this crate, on a machine of the target's kind; or unset RENJU_ARCHIVE"
+             same commit as this crate, on x86-64 Linux (--aarch64 for that); or unset RENJU_ARCHIVE"
         ));
     }
     Ok(archive)
@@ -149,8 +148,7 @@ fn without_rt(archive: PathBuf, fault: Option<String>, target: &Target) -> Found
     let way = if target.is_here() {
         "there is no `rt` on PATH to write it: install the Rattle toolchain"
     } else {
-        "it is written on x86-64 or aarch64 Linux, for the machine at hand alone: run \
-         rust/renju/archive on a machine of the target's kind"
+        "it is written on x86-64 Linux: run rust/renju/archive there, with --aarch64 for that processor"
     };
     Found::None(format!(
         "no {FILE} for {arch}, {os}: {shown} {fault}, and {way}, or set RENJU_ARCHIVE to a {FILE}"

@@ -27,14 +27,12 @@ pub fn files() -> Vec<(&'static str, String)> {
     files
 }
 
-/// Where a file lies in the repository. The records are the inputs of the programs that replay them:
-/// `rt` runs a program on the files of its crate, and takes no link.
+/// Where the copy of a file of records lies that the program that replays them reads: `rt` runs a
+/// program on the files of its crate, and takes no link.
 #[must_use]
-pub fn place(name: &str) -> String {
-    match name.strip_suffix(".txt") {
-        Some(of) => format!("crates/replay_{of}/stdin"),
-        None => format!("vectors/{name}"),
-    }
+pub fn copy(name: &str) -> Option<String> {
+    let of = name.strip_suffix(".txt")?;
+    Some(format!("crates/replay_{of}/stdin"))
 }
 
 /// Records in the making.

@@ -8,8 +8,13 @@ use std::fs;
 use std::path::Path;
 
 fn recorded(name: &str) -> String {
+    read(&format!("vectors/{name}"))
+}
+
+/// A file of the repository, by its path from the root.
+fn read(path: &str) -> String {
     let root = Path::new(env!("CARGO_MANIFEST_DIR")).join("../..");
-    fs::read_to_string(root.join(vectors::place(name))).expect("a recorded file")
+    fs::read_to_string(root.join(path)).expect("a recorded file")
 }
 
 fn fields_of(text: &str, letter: &str) -> Vec<Vec<String>> {
@@ -35,6 +40,15 @@ fn cells_of(field: &str) -> Cells {
 fn bytes_of(field: &str) -> Vec<u8> {
     let pair = |k: usize| u8::from_str_radix(&field[k..k + 2], 16).expect("two digits");
     (0..field.len()).step_by(2).map(pair).collect()
+}
+
+#[test]
+fn the_programs_replay_what_is_recorded() {
+    for (name, _) in vectors::files() {
+        if let Some(copy) = vectors::copy(name) {
+            assert!(read(&copy) == recorded(name), "{copy} is no copy of {name}");
+        }
+    }
 }
 
 #[test]

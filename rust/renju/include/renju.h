@@ -24,8 +24,8 @@
  * 0, H8 is 112, O15 is 224. Where several refusals of a function apply, the first named is given. A
  * text has a length and no 0 byte at its end, one that is written too.
  *
- * To link: `rust/renju/archive` in the repository's root writes target/staticlib/librenju.a, for the
- * machine at hand, x86-64 or aarch64 Linux. Then, in the root:
+ * To link: `rust/renju/archive` in the repository's root, on x86-64 Linux, writes
+ * target/staticlib/librenju.a (with --aarch64 one for aarch64 Linux). Then, in the root:
  *
  *     cc -std=c99 -Irust/renju/include program.c target/staticlib/librenju.a -o program
  *

@@ -110,9 +110,9 @@ pub fn text(files: &[(&'static str, String)]) -> String {
     )
     .expect("a String takes all");
     out.push_str(
-        "The four files are the inputs of the programs that replay them: boards.txt is\n\
-         `crates/replay_boards/stdin`, and so on, since `rt` runs a program on its crate's\n\
-         own files. Every record of the four is replayed.\n\n",
+        "The programs that replay the four files have copies of them, boards.txt in\n\
+         `crates/replay_boards/stdin` and so on: `rt` runs a program on its crate's own\n\
+         files, and takes no link. Every record of the four is replayed.\n\n",
     );
     out.push_str("## Counts\n\n| file | bytes | records |\n|---|---|---|\n");
     for (name, text) in files {
