@@ -1,29 +1,27 @@
 -- What is given back where nothing is refused: the board of the right cells, the right starts. Assumes nothing.
 use mathlib.Core.Path.{◌≡◌, refl, ap, ap₂, sym, ◌∙◌}
-use mathlib.Core.Bool.{Bool, true, false, ◌&&◌, cond}
+use mathlib.Core.Bool.{Bool, true, false, ◌&&◌, ◌||◌, cond}
 use mathlib.Core.Logic.{◌⊎◌, inl, inr}
 use mathlib.Core.List.{List}
+use Rattle.std.specs.Prelude.{Result, Ok, Err}
+use Rattle.std.specs.Result.{result_ok}
 use Prim.Native.Nat.{ℕ, ◌+◌, ◌<◌}
 use native.Mathlib.Omega.{arith}
 use lib.Dec.{eqb, ltb, eqb→eq}
-use lib.ListN.{get_or, set, take}
-use lib.Seq.{take_all}
+use lib.ListN.{get_or, set}
 use borrow.Author.Tests.{eq-eqb, eqb-true, lt-ltb}
-use Rattle.rules.specs.Numbers.{colour_no}
-use Rattle.rules.specs.Refusals.{unsound, unless, first, colour_refusal, kind_refusal, code_refusal}
+use Rattle.rules.specs.Numbers.{colour_no, player_of}
+use Rattle.rules.specs.Answers.{answer, refusal_named, stone_there}
+use Rattle.rules.specs.Refusals.{no_number, unsound, unless, first, colour_refusal, kind_refusal, code_refusal}
 use Rattle.rules.specs.Bit.{digit}
-use Rattle.rules.specs.Answers.{stone_answer}
-use Rattle.rules.specs.declared.answer.StoneAnswer.TheVariants as stone
+use Rattle.rules.specs.declared.refusal.Refusal.{Refusal}
 use Rattle.rules.specs.declared.Player.{Player}
 use Rattle.rules.specs.declared.Player.TheVariants.{Black, White}
 use Rattle.rules.proofs.Logic.{true-T, decide, and_left, and_right, and_intro}
-use Rattle.rules.proofs.Refusals.{first-none, none_first, passed, pass, given}
-use Rattle.lent.specs.Lists.{zeros, list_refusal, list_out}
+use Rattle.rules.proofs.Refusals.{first-none, none_first, passed, pass, answered}
 use Rattle.point.proofs.Refused.{code_in}
 use Rattle.cells.specs.Cells.{Cells, cells_refusal}
 use Rattle.cells.specs.Counts.{stones_count}
-use Rattle.cells.specs.Answers.{cells_answer}
-use Rattle.cells.specs.declared.answer.CellsAnswer.{CellsAnswer}
 use Rattle.cells.proofs.Given.{cells-pass}
 use Rattle.cells.proofs.Counts.{stones-le, stones-set}
 use Rattle.grid.specs.Lines.{cell_of, cells_of, lines_of, Sound, is_sound, lines_refusal, write_on}
@@ -32,10 +30,8 @@ use Rattle.grid.proofs.Same.{test-sound, sound-test}
 use Rattle.grid.proofs.Agreed.{sound-agreed, agreed-sound}
 use Rattle.board.specs.Boards.{board_with, cells, board_of, stones_shown, board_from, moved_count, changed_board, counts_refusal, board_refusal}
 use Rattle.board.specs.Boards.{RefusedUnlessAgreed, refusal_at, refusal_for, rows_on_refusal}
-use Rattle.board.specs.Answers.{answer_with, board_answer, starts_answer}
+use Rattle.board.specs.Answers.{board_answer, read_answer}
 use Rattle.board.specs.declared.board.Board.{Board}
-use Rattle.board.specs.declared.answer.BoardAnswer.{BoardAnswer}
-use Rattle.board.specs.declared.answer.StartsAnswer.{StartsAnswer}
 use Rattle.board.proofs.Counted.{shown-cells, stones-shown, moved-count}
 
 -- ---- refusals: what is known where none is given
@@ -124,16 +120,7 @@ pub board-cells : (c : List ℕ) → Cells c → cells (board_of c) ≡ c
 unfolding board_of
 board-cells c ok = cells-lines_of c ok
 
--- ---- answers look at their value only where nothing is refused
-
-pub board-given : (refused : ℕ) (b : Board) (cells : List ℕ) → (refused ≡ 0 → b ≡ board_of cells)
-    → answer_with refused b ≡ board_answer refused cells
-unfolding answer_with board_answer
-board-given refused b cells h =
-    given (answer 0) (answer refused (board_of (zeros 225))) refused b (board_of cells) h
-  where
-    answer : ℕ → Board → BoardAnswer
-    answer n b = record { refused = n; board = b }
+-- ---- the boards that are given back
 
 -- a board by its lines, where these are the lines of the cells
 pub from-lines : {l : List ℕ} (c : List ℕ) → l ≡ lines_of c → board_from l ≡ board_of c
@@ -173,70 +160,49 @@ changed-board b p v none hp el eb ea =
         moved-count n (stones_count r (set (cells b) p v)) (eqb (get_or (cells b) p 0) (colour_no r)) (eqb v (colour_no r))
         (stones-set r (cells b) p v (length-cells_of b.lines) hp ∙ ap (λ (x : ℕ). x + digit (eqb v (colour_no r))) (sym e)) (omega arith)
 
--- where something is refused the cells do not matter
-refused-same : (refused : ℕ) (a c : List ℕ) → eqb refused 0 ≡ false → board_answer refused a ≡ board_answer refused c
-unfolding board_answer answer_with
-refused-same refused a c t = rw t
+-- what an answer with a board says: nothing is refused, and the board has these cells and refuses nothing more
+module _ (refused : ℕ) (c : List ℕ) {answer : Result Board Refusal} {b : Board} (e : answer ≡ board_answer refused c) (given : answer ≡ Ok b) where
+  pub made-refusal : refused ≡ 0
+  unfolding board_answer
+  made-refusal = (answered refused (board_of c) e given).0
+
+  pub made-board : b ≡ board_of c
+  unfolding board_answer
+  made-board = (answered refused (board_of c) e given).1
+
+  module _ (ok : refused ≡ 0 → Cells c) where
+    pub made-sound : board_refusal b ≡ 0
+    made-sound = ap board_refusal made-board ∙ board-sound c (ok made-refusal)
+
+    pub made_cells : cells b ≡ c
+    made_cells = ap cells made-board ∙ board-cells c (ok made-refusal)
+
+-- ---- where nothing is refused the value is given
+
+pub board_given : (c : List ℕ) {refused : ℕ} {b : Board} → refused ≡ 0 → b ≡ board_of c → Ok b ≡ board_answer refused c
+unfolding board_answer answer
+board_given c z e = rw (z, e)
 
 -- cells that were read and are 225 of 0, 1 or 2 are refused by the reading alone
-abbrev read_as : CellsAnswer → BoardAnswer
-read_as a = board_answer (first a.refused (cells_refusal a.cells)) a.cells
-
-pub read-given : (refused : ℕ) (cells : List ℕ) (answer : CellsAnswer) → answer ≡ cells_answer refused cells → Cells cells
-    → board_answer (first answer.refused (cells_refusal answer.cells)) answer.cells ≡ board_answer refused cells
-unfolding cells_answer first
-read-given refused cells answer e ok = ap read_as e ∙ go (decide (eqb refused 0))
+pub read-given : (refused : ℕ) (c : List ℕ) {read : Result (List ℕ) Refusal} → read ≡ answer refused c → Cells c
+    → read_answer read ≡ board_answer refused c
+unfolding read_answer board_answer answer
+read-given refused c e ok = rw e (go (decide (eqb refused 0)))
   where
     go : (eqb refused 0 ≡ true) ⊎ (eqb refused 0 ≡ false)
-        → read_as (cond (eqb refused 0) (record { refused = 0; cells = cells }) (record { refused = refused; cells = zeros 225 }))
-        ≡ board_answer refused cells
-    go (inl t) = rw t (ap (λ (n : ℕ). board_answer n cells) (cells-pass cells ok ∙ sym (eqb-true refused 0 t)))
-    go (inr t) = rw (t, t) (refused-same refused (zeros 225) cells t)
+        → read_answer (cond (eqb refused 0) (Ok c) (Err (refusal_named refused)))
+        ≡ cond (eqb refused 0) (Ok (board_of c)) (Err (refusal_named refused))
+    go (inl t) = rw (t, cells-pass c ok)
+    go (inr t) = rw t
 
-pub stone-given : (refused v w : ℕ) → (refused ≡ 0 → v ≡ w)
-    → stone_answer refused (eqb v 1) (eqb v 2) ≡ stone_answer refused (eqb w 1) (eqb w 2)
-unfolding stone_answer
-stone-given refused v w h =
-    given (λ (n : ℕ). cond (eqb n 1) (stone.Is Black) (cond (eqb n 2) (stone.Is White) stone.Empty)) (stone.Refused refused) refused v w h
-
-pub starts-given : (refused : ℕ) (a b : List ℕ) → (refused ≡ 0 → a ≡ b) → starts_answer refused a ≡ starts_answer refused b
-unfolding starts_answer
-starts-given refused a b h =
-    given (answer 0) (answer refused (zeros 4)) refused a b h
+-- the stone that a cell's number says
+pub stone_given : (n : ℕ) → result_ok (answer (colour_refusal n) (player_of n)) ≡ stone_there (eqb n 1) (eqb n 2)
+unfolding answer colour_refusal unless
+stone_given n = go (eqb n 1) (eqb n 2)
   where
-    answer : ℕ → List ℕ → StartsAnswer
-    answer n l = record { refused = n; starts = l }
-
--- ---- what an answer with a board says: its refusal, and, where that is none, a board that has these cells and refuses nothing more
-
-module _ (refused : ℕ) (c : List ℕ) (m : BoardAnswer) (e : m ≡ board_answer refused c) where
-  pub made-refusal : refused ≡ m.refused
-  unfolding board_answer answer_with
-  made-refusal = sym (ap (λ (a : BoardAnswer). a.refused) e ∙ go (decide (eqb refused 0)))
-    where
-      go : (eqb refused 0 ≡ true) ⊎ (eqb refused 0 ≡ false)
-          → (cond {A = BoardAnswer} (eqb refused 0) (record { refused = 0; board = board_of c })
-          (record { refused = refused; board = board_of (zeros 225) })).refused ≡ refused
-      go (inl t) = rw t (sym (eqb-true refused 0 t))
-      go (inr t) = rw t
-
-  module _ (none : m.refused ≡ 0) where
-    pub made-board : m.board ≡ board_of c
-    unfolding board_answer answer_with
-    made-board = ap (λ (a : BoardAnswer). a.board) e ∙ rw (eq-eqb refused 0 (made-refusal ∙ none))
-
-    module _ (ok : refused ≡ 0 → Cells c) where
-      pub made-sound : board_refusal m.board ≡ refused
-      made-sound = ap board_refusal made-board ∙ board-sound c (ok (made-refusal ∙ none)) ∙ sym (made-refusal ∙ none)
-
-      pub made_cells : cells m.board ≡ c
-      made_cells = ap cells made-board ∙ board-cells c (ok (made-refusal ∙ none))
-
--- ---- the cells, written out
-
-pub cells_out : (refused : ℕ) (out bytes l : List ℕ) (r : ℕ) (out' : List ℕ) → bytes ≡ cells_of l
-    → (r ≡ list_refusal refused out (take 225 bytes)) × (out' ≡ list_out refused out (take 225 bytes))
-    → (r ≡ list_refusal refused out (cells_of l)) × (out' ≡ list_out refused out (cells_of l))
-cells_out refused out bytes l r out' e h =
-    let whole : take 225 bytes ≡ cells_of l = ap (take 225) e ∙ take_all 225 (cells_of l) (let n = length-cells_of l in omega arith) in
-    (h.0 ∙ ap (list_refusal refused out) whole, h.1 ∙ ap (list_out refused out) whole)
+    go : (a b : Bool)
+        → result_ok (cond (eqb (cond (a || b) 0 no_number) 0) (Ok (cond a Black White)) (Err (refusal_named (cond (a || b) 0 no_number))))
+        ≡ stone_there a b
+    go true b = refl
+    go false true = refl
+    go false false = refl

@@ -1,27 +1,28 @@
--- Answers about boards: the value where no refusal is given (0), else the refusal's number, with the empty board or zeros in its place.
-use Rattle.std.specs.Prelude.{cond, List, ℕ, eqb}
+-- Answers about boards: the value where no refusal is given (0), else the refusal alone.
+use Rattle.std.specs.Prelude.{List, ℕ, Result, Ok, Err}
 use Rattle.rules.specs.Numbers.{player_of}
 use Rattle.rules.specs.Grid.{put, remove}
-use Rattle.lent.specs.Lists.{zeros}
+use Rattle.rules.specs.Answers.{answer}
+use Rattle.rules.specs.declared.refusal.Refusal.{Refusal}
+use Rattle.cells.specs.Cells.{cells_refusal}
 use Rattle.board.specs.Boards.{cells, board_of, refusal_at, refusal_for}
 use Rattle.board.specs.declared.board.Board.{Board}
-use Rattle.board.specs.declared.answer.BoardAnswer.{BoardAnswer}
-use Rattle.board.specs.declared.answer.StartsAnswer.{StartsAnswer}
 
-unfoldable pub answer_with : ℕ → Board → BoardAnswer
-answer_with refused b = cond (eqb refused 0) (record { refused = 0; board = b }) (record { refused = refused; board = board_of (zeros 225) })
+abbrev pub answer_with : ℕ → Board → Result Board Refusal
+answer_with refused b = answer refused b
 
 -- the board of some cells
-unfoldable pub board_answer : ℕ → List ℕ → BoardAnswer
+unfoldable pub board_answer : ℕ → List ℕ → Result Board Refusal
 board_answer refused cells = answer_with refused (board_of cells)
 
+-- the board of cells that were read, or the refusal of the reading
+unfoldable pub read_answer : Result (List ℕ) Refusal → Result Board Refusal
+read_answer (Ok cells) = board_answer (cells_refusal cells) cells
+read_answer (Err refusal) = Err refusal
+
 -- the board after a stone of the colour is put at a point, and after a point is made empty
-abbrev pub put_answer : Board → ℕ → ℕ → BoardAnswer
+abbrev pub put_answer : Board → ℕ → ℕ → Result Board Refusal
 put_answer b p colour = board_answer (refusal_for b p colour) (put (player_of colour) (cells b) p)
 
-abbrev pub remove_answer : Board → ℕ → BoardAnswer
+abbrev pub remove_answer : Board → ℕ → Result Board Refusal
 remove_answer b p = board_answer (refusal_at b p) (remove (cells b) p)
-
-unfoldable pub starts_answer : ℕ → List ℕ → StartsAnswer
-starts_answer refused starts =
-    cond (eqb refused 0) (record { refused = 0; starts = starts }) (record { refused = refused; starts = zeros 4 })

@@ -2,10 +2,8 @@
 // board are in `lists`, copies of its lines in `lines`.
 #![tactic(auto)]
 
-mod answer;
 mod board;
 mod count;
 
-pub use answer::{BoardAnswer, StartsAnswer};
 pub use board::Board;
 pub use count::refusal_on;

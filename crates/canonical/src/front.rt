@@ -1,6 +1,6 @@
 // The canonical form asked of cell bytes.
 ghost use Rattle.std.specs.Prelude.{◌≡◌};
-ghost use Rattle.rules.specs.Answers.{number_answer};
+ghost use Rattle.rules.specs.Answers.{answer};
 ghost use Rattle.lent.specs.Lists.{list_refusal, list_out};
 ghost use Rattle.cells.specs.Cells.{cells_refusal};
 ghost use Rattle.canonical.specs.Canonical.{canonical_view, canonical_cells};
@@ -8,17 +8,17 @@ ghost use Rattle.canonical.specs.Canonical.{canonical_view, canonical_cells};
 use super::least::least_seen;
 use cells::cells_refusal;
 use lent::write_out;
-use rules::NumberAnswer;
+use rules::Refusal;
 
 // The smallest view that gives the least of the eight turned boards; that board to the front of `out`.
-pub fn canonical_of(cells: &[u8], out: &mut [u8]) -> NumberAnswer
-    ensures { (result ≡ number_answer (list_refusal (cells_refusal cells.now) out.old
+#[tactic(auto, unfolding(rules::specs::Answers::answer, rules::specs::Refusals::first, lent::specs::Lists::list_refusal, lent::specs::Lists::list_out, crate::specs::Canonical::canonical_cells))]
+pub fn canonical_of(cells: &[u8], out: &mut [u8]) -> Result<u8, Refusal>
+    ensures { (result ≡ answer (list_refusal (cells_refusal cells.now) out.old
         (canonical_cells cells.now)) (canonical_view cells.now))
         × (out.new ≡ list_out (cells_refusal cells.now) out.old (canonical_cells cells.now)) }
 {
-    let refused = cells_refusal(cells);
+    cells_refusal(cells)?;
     let found = least_seen(cells);
-    let bytes = found.cells;
-    let refusal = write_out(refused, out, &bytes, 225);
-    NumberAnswer::of(refusal, found.view)
+    write_out(&found.cells, out)?;
+    Ok(found.view)
 }

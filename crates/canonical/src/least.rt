@@ -3,11 +3,10 @@ ghost use Rattle.std.specs.Prelude.{◌≡◌};
 ghost use Rattle.rules.specs.Views.{turn_cells};
 ghost use Rattle.canonical.specs.Canonical.{canonical_view};
 
-use super::order::less;
 use cells::turned_cells;
 
 // A view and the cells of the board in it.
-#[derive(Clone, Copy)]
+#[derive(Clone, Copy, Debug, PartialEq, Eq)]
 pub(crate) struct Seen {
     pub(crate) view: u8,
     pub(crate) cells: [u8; 225],
@@ -19,16 +18,12 @@ pub(crate) fn least_seen(cells: &[u8]) -> Seen
 {
     let mut least = turned_cells(cells, 0);
     let mut first = 0u8;
-    let mut view = 1u8;
-    while view < 8 {
+    for view in 1..8u8 {
         let other = turned_cells(cells, view);
-        let at = view;
-        view += 1;
-        if !less(&other, &least) {
-            continue;
+        if other < least {
+            least = other;
+            first = view;
         }
-        least = other;
-        first = at;
     }
     Seen {
         view: first,

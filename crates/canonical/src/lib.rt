@@ -3,6 +3,5 @@
 
 mod front;
 mod least;
-mod order;
 
 pub use front::canonical_of;

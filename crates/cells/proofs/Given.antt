@@ -11,15 +11,18 @@ use native.Mathlib.Decide.{ℕ_discrete}
 use lib.Dec.{T, eqb, leb, ltb, leb→le, le→leb, ltb→lt}
 use lib.ListN.{length, get_or, set, drop, length-set, get_or-eq_default}
 use lib.Seq.{get_or-set_same, get_or-set_other, drop-cons}
-use borrow.Author.Tests.{eq-eqb, ne_eqb, eqb-true, ltb-true, ltb-false}
+use borrow.Author.Tests.{eq-eqb, eqb-true, ltb-true, ltb-false}
 use Rattle.rules.specs.Numbers.{colour_no, player_of, is_colour, opponent_of}
 use Rattle.rules.specs.Refusals.{many_moves, unless, colour_refusal, code_refusal, distance_refusal}
+use Rattle.std.specs.Prelude.{Result, Ok, Err}
+use Rattle.rules.specs.Answers.{answer, checked}
+use Rattle.rules.specs.declared.refusal.Refusal.{Refusal}
 use Rattle.rules.specs.Tools.{all_below}
 use Rattle.rules.specs.Grid.{is_empty, Change, put_at, remove_at, play, put, remove}
 use Rattle.rules.specs.Views.{turn, undo, turn_cells}
 use Rattle.rules.specs.declared.Player.{Player}
 use Rattle.rules.specs.declared.Player.TheVariants.{Black, White}
-use Rattle.rules.proofs.Logic.{T_true, true-T, decide, and_left, and_right, and_intro, all-elim, all-intro, or_cases}
+use Rattle.rules.proofs.Logic.{T_true, true-T, decide, and_left, and_right, and_intro, all-elim, all-intro, all-fails, or_cases}
 use Rattle.rules.proofs.Refusals.{first-none, passed, pass}
 use Rattle.rules.proofs.Lists.{length-tab, get_d-tab}
 use Rattle.lent.specs.Lists.{zeros}
@@ -27,7 +30,6 @@ use Rattle.lent.proofs.Laws.{length-zeros, zeros-at}
 use Rattle.point.proofs.Refused.{code_in}
 use Rattle.cells.specs.Cells.{Cells, cells_refusal, cells_refusal_at, cells_refusal_for, cells_neighbours_refusal}
 use Rattle.cells.specs.Cells.{codes_refusal, moves_refusal, puts, moves_cells, stones_cells}
-use Rattle.cells.specs.Calls.{changed}
 
 -- ---- refusals: what is known where none is given
 
@@ -54,6 +56,16 @@ moves-in moves e =
       λ i h. ltb→lt (get_or moves i 0) 225
           (all-elim (length moves) (λ i. ltb (get_or moves i 0) 225) (passed (all_below (length moves) (λ i. ltb (get_or moves i 0) 225)) 7 q.1) i h),
     )
+
+-- the first code that is refused is the list's refusal
+pub first_refused : (codes : List ℕ) (i : ℕ) {r : Result Unit Refusal} {x : Refusal} → i < length codes
+    → r ≡ checked (code_refusal (get_or codes i 0)) → r ≡ Err x → r ≡ checked (codes_refusal codes)
+unfolding codes_refusal code_refusal unless answer
+first_refused codes i {r} {x} h e k = go (decide (ltb (get_or codes i 0) 225))
+  where
+    go : (ltb (get_or codes i 0) 225 ≡ true) ⊎ (ltb (get_or codes i 0) 225 ≡ false) → r ≡ checked (codes_refusal codes)
+    go (inl t) = let z : Ok tt ≡ Err x = rw t at (sym e ∙ k) in cc
+    go (inr t) = e ∙ rw (t, all-fails (length codes) (λ n. ltb (get_or codes n 0) 225) i h t)
 
 pub cells-for-in : (cells : List ℕ) (p colour : ℕ) → cells_refusal_for cells p colour ≡ 0
     → Cells cells × (p < 225) × (colour_refusal colour ≡ 0)
@@ -142,17 +154,6 @@ turn-ok v cells ok =
 pub length-turned : (v : ℕ) (cells : List ℕ) → length (turn_cells v cells) ≡ 225
 unfolding turn_cells
 length-turned v cells = length-tab 225 (λ q. get_or cells (turn (undo v) q) 0)
-
--- ---- cells that are lent: changed where nothing is refused, else as they were; `told` is what the refusal means
-
-module _ {refused told : ℕ} (e : refused ≡ told) (old : List ℕ) where
-  pub kept-as-was : (new : List ℕ) → (refused ≡ 0 → ⊥) → (refused ≡ told) × (old ≡ changed told old new)
-  unfolding changed
-  kept-as-was new n = (e, rw (ne_eqb told 0 (λ z. n (e ∙ z))))
-
-  pub changed-to : {new made : List ℕ} → refused ≡ 0 → made ≡ new → (0 ≡ told) × (made ≡ changed told old new)
-  unfolding changed
-  changed-to z k = (sym z ∙ e, rw (eq-eqb told 0 (sym e ∙ z)) k)
 
 -- ---- a cell is empty where it is 0
 

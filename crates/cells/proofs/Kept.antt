@@ -1,63 +1,65 @@
 -- Lists that are collected off the cells: how long a part can be, what comes after the last one, and what one turn finds. Assumes nothing.
-use mathlib.Core.Path.{◌≡◌, ap, ap₂, ◌∙◌}
-use mathlib.Core.Bool.{Bool, not, ◌&&◌, ◌||◌}
-use mathlib.Core.List.{List, [], ◌∷◌}
-use Prim.Native.Nat.{ℕ, ◌+◌, ◌-◌, ◌*◌, ◌/◌, ◌≤◌, ◌<◌}
-use native.Mathlib.Nat.{le_trans}
+use mathlib.Core.Path.{◌≡◌, refl, ap, ap₂, sym, ◌∙◌}
+use mathlib.Core.Bool.{Bool, true, false, not, ◌&&◌, ◌||◌}
+use mathlib.Core.List.{List, [], ◌∷◌, ◌++◌, append-nil, append_assoc}
+use Prim.Native.Nat.{ℕ, ◌+◌, ◌-◌, ◌/◌, ◌≤◌, ◌<◌}
 use native.Mathlib.Omega.{arith}
-use lib.ListN.{length, get_or, take}
-use lib.Seq.{take_all}
+use lib.Dec.{eqb}
+use lib.ListN.{length, get_or}
 use borrow.Author.Tests.{le-leb, lt-leb, le-ltb, lt-ltb}
 use Rattle.rules.specs.Tools.{gather, only}
 use Rattle.rules.specs.Point.{line_no, cell_no, line_size, point_at}
-use Rattle.rules.specs.Answers.{count_answer}
-use Rattle.rules.specs.declared.answer.CountAnswer.{CountAnswer}
 use Rattle.rules.specs.Grid.{is_empty, empty_points, on_line, neighbour_item, neighbours_in}
 use Rattle.rules.proofs.Lists.{gather_cong}
-use Rattle.lent.specs.Lists.{zeros, Wrote, Held, list_refusal, list_out, counted}
-use Rattle.lent.proofs.Laws.{gather-length, gather-end, short, handed}
-use Rattle.cells.specs.Cells.{Cells, value_list}
-use Rattle.cells.proofs.Given.{empty-value}
+use Rattle.std.specs.Prelude.{Result, Ok, Err}
+use Rattle.rules.specs.declared.refusal.Refusal.{Refusal}
+use Rattle.rules.specs.Refusals.{first}
+use Rattle.rules.specs.Answers.{answer, checked, refusal_named}
+use Rattle.lent.specs.Lists.{kept, list_refusal, list_out, counted}
+use Rattle.lent.proofs.Laws.{short, kept_lem, gather-more}
+use Rattle.cells.specs.Cells.{cells_refusal, value_list}
+use Rattle.cells.proofs.Given.{cells_in, empty-value}
 
--- ---- a list in parts, one for each number
+-- ---- a list that is kept behind another
 
-module _ (size k : ℕ) (f : ℕ → List ℕ) (h : (i : ℕ) → length (f i) ≤ k) where
-  -- where the next part goes
-  pub parts-place : (i : ℕ) {buf : List ℕ} {n : ℕ} → Wrote (zeros size) 0 (gather i f) buf n → n ≤ i * k
-  parts-place i w = let e = w.place in let g = gather-length k i f (λ j l. h j) in omega arith
+module _ (size : ℕ) (old : List ℕ) (f : ℕ → List ℕ) (i : ℕ) {l new : List ℕ} (h : l ≡ old ++ gather i f) where
+  -- a turn of a loop over i that keeps what f gives there
+  pub behind_kept : (item : List ℕ) → new ≡ kept size l item → length l + length item ≤ size → item ≡ f i → new ≡ old ++ gather (i + 1) f
+  behind_kept item k room e =
+      k ∙ kept_lem size l item room ∙ ap₂ (λ (x y : List ℕ). x ++ y) h e ∙ append_assoc old (gather i f) (f i)
+      ∙ ap (λ (x : List ℕ). old ++ x) (gather-more i f)
 
-  -- after the last part
-  pub parts-end : (i top : ℕ) {buf : List ℕ} {n : ℕ} → top * k ≤ size → i ≡ top → Wrote (zeros size) 0 (gather i f) buf n
-      → Held size (gather top f) buf n
-  parts-end i top {buf} {n} room e w = gather-end size f i top buf n w e (le_trans (gather-length k top f (λ j l. h j)) room)
+  -- .. at which f gives nothing
+  pub behind_passed : new ≡ l → [] ≡ f i → new ≡ old ++ gather (i + 1) f
+  behind_passed k e =
+      k ∙ h ∙ ap (λ (x : List ℕ). old ++ x) (sym (append-nil (gather i f)) ∙ ap (λ (x : List ℕ). gather i f ++ x) e ∙ gather-more i f)
 
--- ---- a list that is handed out with its count: what is held, one byte for each item; or the whole of it
+-- ---- a list that is handed out with its count, one byte for each item
 
-module _ {refused told : ℕ} (out a : List ℕ) (e : refused ≡ told) where
-  pub handed-codes : (room : ℕ) {from : List ℕ} {len : ℕ} {r : CountAnswer} {out' : List ℕ} → Held room a from len
-      → (r ≡ count_answer (list_refusal refused out (take len from)) len) × (out' ≡ list_out refused out (take len from))
-      → (r ≡ counted 1 told out a) × (out' ≡ list_out told out a)
-  handed-codes room {from} {len} h k =
-      let one : len ≡ len / 1 = omega arith in
-      handed 1 out a e room h (k.0 ∙ ap (count_answer (list_refusal refused out (take len from))) one, k.1)
-
-  pub handed-whole : (n : ℕ) {from : List ℕ} {r : CountAnswer} {out' : List ℕ} → from ≡ a → length a ≡ n
-      → (r ≡ count_answer (list_refusal refused out (take n from)) n) × (out' ≡ list_out refused out (take n from))
+module _ (told : ℕ) (out a : List ℕ) {r : Result ℕ Refusal} where
+  -- nothing was refused before
+  pub handed_codes : {list : List ℕ} {n : ℕ} {out' : List ℕ} → told ≡ 0 → list ≡ a → n ≡ length list
+      → (r ≡ answer (list_refusal 0 out list) n) × (out' ≡ list_out 0 out list)
       → (r ≡ counted 1 told out a) × (out' ≡ list_out told out a)
   unfolding counted
-  handed-whole n same long k =
-      let whole = ap (take n) same ∙ take_all n a (omega arith) in
-      let one : n ≡ length a / 1 = omega arith in (
-        k.0 ∙ ap₂ (λ (x : List ℕ) (m : ℕ). count_answer (list_refusal refused out x) m) whole one
-            ∙ ap (λ (x : ℕ). count_answer (list_refusal x out a) (length a / 1)) e,
-        k.1 ∙ ap₂ (λ (x : ℕ) (y : List ℕ). list_out x out y) e whole,
-      )
+  handed_codes {list} {n} none same many k =
+      let one : n ≡ length a / 1 = omega (arith, many, ap length same) in
+      (rw (none, sym same) (k.0 ∙ ap (answer (list_refusal 0 out list)) (one ∙ sym (ap (λ (x : List ℕ). length x / 1) same))), rw (none, sym same) k.1)
+
+  -- it was refused, and the lent buffer is as it was
+  pub refused_codes : {x : Refusal} → checked told ≡ Err x → r ≡ Err x → (r ≡ counted 1 told out a) × (out ≡ list_out told out a)
+  unfolding answer counted list_out list_refusal first
+  refused_codes {x} e k = go (eqb told 0) refl
+    where
+      go : (t : Bool) → eqb told 0 ≡ t → (r ≡ counted 1 told out a) × (out ≡ list_out told out a)
+      go true q = let z : Ok tt ≡ Err x = rw q at e in cc
+      go false q = let z : Err (refusal_named told) ≡ Err x = rw q at e in (k ∙ rw (q, q) (cc), rw (q, q))
 
 -- ---- empty points
 
-pub empty-list : (cells : List ℕ) → Cells cells → value_list cells 0 ≡ empty_points cells
+pub empty_list : (cells : List ℕ) → cells_refusal cells ≡ 0 → value_list cells 0 ≡ empty_points cells
 unfolding value_list empty_points
-empty-list cells ok = gather_cong 225 _ _ (λ p h. ap (λ (b : Bool). only b (p ∷ [])) (empty-value cells ok p h))
+empty_list cells e = gather_cong 225 _ _ (λ p h. ap (λ (b : Bool). only b (p ∷ [])) (empty-value cells (cells_in cells e) p h))
 
 -- ---- neighbours
 

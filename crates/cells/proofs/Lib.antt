@@ -4,7 +4,7 @@
 pub mod Given
 -- tables filled from the front, as a loop does it
 pub mod Filled
--- lists that are collected: their turns, their lengths, their parts
+-- lists that are collected, and handed out: their turns, how long they can be
 pub mod Kept
 -- any sequence of calls acts as on a plain map
 pub mod Mapped

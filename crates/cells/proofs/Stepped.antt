@@ -8,16 +8,15 @@ use native.Mathlib.Omega.{arith}
 use lib.Dec.{eqb, ltb, leb, eqb→eq, leb→le}
 use lib.ListN.{length, get_or, take, drop, set, get_or-append, get_or-eq_default}
 use lib.Seq.{get_or-take, get_or-drop, get_or-append-add, length-take-le, take_all}
-use borrow.Author.Tests.{lt-ltb, ltb-true, ltb-false, le-leb}
+use borrow.Author.Tests.{lt-ltb, ltb-true, ltb-false}
 use Rattle.rules.specs.Tools.{all_below}
 use Rattle.rules.specs.Point.{x_of, y_of, code_of}
-use Rattle.rules.specs.Refusals.{first, unless}
 use Rattle.rules.specs.Views.{turn, views, turn_cells, undo}
 use Rattle.rules.proofs.Logic.{true-T, implies, implied, all-elim, all2, decide}
 use Rattle.rules.proofs.Lists.{tab-cong}
 use Rattle.rules.proofs.Turns.{turn-lt}
-use Rattle.lent.specs.Lists.{zeros, fits, laid, list_refusal, list_out}
-use Rattle.lent.proofs.Laws.{length-zeros, zeros-at}
+use Rattle.lent.specs.Lists.{zeros, laid}
+use Rattle.lent.proofs.Laws.{zeros-at}
 use Rattle.cells.specs.Turned.{turned_to}
 use Rattle.cells.proofs.Filled.{filled, filled_none, filled_more, filled-all}
 
@@ -75,19 +74,11 @@ turned_more v cells q at hq e =
     ap (λ (n : ℕ). set (turned_to q v cells) q (get_or cells n 0)) e ∙ filled_more 225 (λ q. get_or cells (turn v q) 0) q hq
 
 -- 225 cells copied from what was lent: the same cells, and where there are less, 0
-pub copied : (cells : List ℕ) (p : ℕ) → p < 225 → get_or (list_out 0 (zeros 225) (take 225 cells)) p 0 ≡ get_or cells p 0
-unfolding list_out list_refusal laid fits first unless
+pub copied : (cells : List ℕ) (p : ℕ) → p < 225 → get_or (laid (zeros 225) (take 225 cells)) p 0 ≡ get_or cells p 0
+unfolding laid
 copied cells p hp =
-    let room = short (decide (ltb (length cells) 225)) in
-    rw (le-leb (length (take 225 cells)) (length (zeros 225)) (omega (arith, room, length-zeros 225)))
-    (go (decide (ltb p (length (take 225 cells)))) (behind (decide (ltb (length cells) 225))))
+    go (decide (ltb p (length (take 225 cells)))) (behind (decide (ltb (length cells) 225)))
   where
-    short : (ltb (length cells) 225 ≡ true) ⊎ (ltb (length cells) 225 ≡ false) → length (take 225 cells) ≤ 225
-    short (inl t) =
-        let h = ltb-true (length cells) 225 t in
-        rw (take_all 225 cells (omega arith)) (omega arith)
-    short (inr t) = let h = length-take-le 225 cells (ltb-false (length cells) 225 t) in omega arith
-
     behind : (ltb (length cells) 225 ≡ true) ⊎ (ltb (length cells) 225 ≡ false) → length (take 225 cells) ≤ p → length cells ≤ p
     behind (inl t) l =
         let h = ltb-true (length cells) 225 t in

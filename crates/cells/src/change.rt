@@ -1,15 +1,17 @@
 // Cells read, and changed where they stand.
 ghost use Rattle.std.specs.Prelude.{◌≡◌, cond, ◌<◌, length, get_or, set};
+ghost use Rattle.rules.specs.Answers.{checked};
 ghost use Rattle.cells.specs.Cells.{cells_refusal_at, cells_refusal_for};
 ghost use Rattle.cells.specs.Calls.{after_put, after_remove};
 
 use super::refusal::{cells_refusal_at, cells_refusal_for};
+use rules::Refusal;
 
 // A cell's value; 0 past the end.
 pub fn value_at(cells: &[u8], i: usize) -> u8
     ensures { result ≡ get_or cells.now i 0 }
 {
-    if i < cells.len() { cells[i] } else { 0 }
+    cells.get(i).copied().unwrap_or(0)
 }
 
 // A cell set to a value; nothing past the end.
@@ -32,11 +34,9 @@ fn write_block(cells: &mut [u8], code: u8, value: u8)
 {
     let place = code % 16;
     let begin = code - place;
-    let mut i = 0u8;
-    while i < 16 {
+    for i in 0..16u8 {
         let at = (begin + i) as usize;
         cells[at] = chosen(i == place, value, cells[at]);
-        i += 1;
     }
 }
 
@@ -48,35 +48,31 @@ fn chosen(first: bool, one: u8, other: u8) -> u8
 }
 
 // A stone of the colour put at a point, in place of what stood there; or the refusal, and no cell is changed.
-pub fn put_of(cells: &mut [u8], code: u8, colour: u8) -> u8
-    ensures { (result ≡ cells_refusal_for cells.old code colour)
+#[tactic(auto, unfolding(rules::specs::Answers::answer, crate::specs::Calls::after_put, crate::specs::Calls::changed))]
+pub fn put_of(cells: &mut [u8], code: u8, colour: u8) -> Result<(), Refusal>
+    ensures { (result ≡ checked (cells_refusal_for cells.old code colour))
         × (cells.new ≡ after_put cells.old code colour) }
 {
-    let refused = cells_refusal_for(cells, code, colour);
-    if refused != 0 {
-        return refused;
-    }
+    cells_refusal_for(cells, code, colour)?;
     if code < 224 {
         write_block(cells, code, colour);
     } else {
         cells[code as usize] = colour;
     }
-    0
+    Ok(())
 }
 
 // A point made empty; or the refusal.
-pub fn remove_of(cells: &mut [u8], code: u8) -> u8
-    ensures { (result ≡ cells_refusal_at cells.old code)
+#[tactic(auto, unfolding(rules::specs::Answers::answer, crate::specs::Calls::after_remove, crate::specs::Calls::changed))]
+pub fn remove_of(cells: &mut [u8], code: u8) -> Result<(), Refusal>
+    ensures { (result ≡ checked (cells_refusal_at cells.old code))
         × (cells.new ≡ after_remove cells.old code) }
 {
-    let refused = cells_refusal_at(cells, code);
-    if refused != 0 {
-        return refused;
-    }
+    cells_refusal_at(cells, code)?;
     if code < 224 {
         write_block(cells, code, 0);
     } else {
         cells[code as usize] = 0;
     }
-    0
+    Ok(())
 }

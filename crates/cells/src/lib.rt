@@ -2,7 +2,6 @@
 // the lists that are read off them point by point; and how many stones there are. No line is built here.
 #![tactic(auto)]
 
-mod answer;
 mod build;
 mod change;
 mod codes;
@@ -11,11 +10,10 @@ mod refusal;
 mod stones;
 mod turn;
 
-pub use answer::CellsAnswer;
 pub use build::{moves_cells, stones_cells};
 pub use change::{put_of, remove_of, value_at};
-pub use codes::{Codes, points_with};
-pub use front::{empty_points_of, hand_out, neighbors_of, stones_of, turned_of};
+pub use codes::points_with;
+pub use front::{empty_points_of, neighbors_of, stones_of, turned_of};
 pub use refusal::{cells_refusal, cells_refusal_at, codes_refusal, moves_refusal};
 pub use stones::counts_of;
 pub use turn::turned_cells;

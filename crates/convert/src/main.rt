@@ -3,9 +3,8 @@
 #![tactic(auto)]
 
 use diagrams::convert_diagram;
-use lent::{head, keep};
+use lent::{Kept, head};
 use program::{is_cut_short, read_full, refuse, say, text_room, write};
-use rules::CountAnswer;
 
 fn main(rt: HostRuntime) {
     let mut text = text_room();
@@ -19,18 +18,18 @@ fn main(rt: HostRuntime) {
 
 // No stones text is longer than 2,251 bytes, so 13 does not arise.
 fn convert<R: Print + Eprint>(rt: &R, text: &[u8]) {
-    let mut out = [0u8; 2252];
+    let mut out = [0u8; 2251];
     match convert_diagram(text, &mut out) {
-        CountAnswer::Is(len) => {
-            let end = keep(&mut out, len as usize, true, b"\n");
+        Ok(len) => {
+            let mut lines = Kept::<2252>::new();
+            lines.keep(head(&out, len as usize));
+            lines.keep(b"\n");
             write(
                 rt,
-                head(&out, end),
+                lines.as_slice(),
                 "convert: standard output cannot be written\n",
             );
         }
-        CountAnswer::Refused(number) => {
-            refuse(rt, number);
-        }
+        Err(refusal) => refuse(rt, refusal),
     }
 }

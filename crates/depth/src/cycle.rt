@@ -38,8 +38,7 @@ fn depth_by(lines: &mut [u16; 144], table: &[u16; 900], code: u8, rows: Rows) ->
     ensures { (result ≡ depth_of (cells_of lines.old) code) × (lines.new ≡ lines.old) }
 {
     if asks_nested(rows) {
-        let twos = rows.twos;
-        return 1 + trial_depth(lines, table, code, twos);
+        return 1 + trial_depth(lines, table, code, rows.twos);
     }
     1
 }
@@ -66,6 +65,7 @@ fn deepest_eye(lines: &mut [u16; 144], table: &[u16; 900], code: u8, threes: [u1
     ensures { (result ≡ deepest depth_of (cells_of lines.old) code) × (lines.new ≡ lines.old) }
 {
     let mut deep = 0u8;
+    // stays: the next Three is looked for by its bit
     let mut three = next_start(threes, 0);
     while three < 64 {
         let here = eye_depth(lines, table, code, three);
@@ -85,8 +85,7 @@ fn eye_depth(lines: &mut [u16; 144], table: &[u16; 900], code: u8, three: u8) ->
 {
     let eye = eye_at(lines, table, code, three);
     let rows = rows_at(lines, table, eye);
-    let fours = rows.fours;
-    if some_row(fours) {
+    if some_row(rows.fours) {
         return 1;
     }
     depth_by(lines, table, eye, rows)

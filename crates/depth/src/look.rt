@@ -19,9 +19,7 @@ pub(crate) fn rows_at(lines: &[u16; 144], table: &[u16; 900], code: u8) -> Rows
     ensures { RowsAre (black_rows (cells_of lines.now) code) result }
 {
     let stones = stones_by(lines, table, code, Player::Black);
-    let blacks = stones.own;
-    let whites = stones.other;
-    rows_near(blacks, whites, code, true)
+    rows_near(stones.own, stones.other, code, true)
 }
 
 // Whether a nested question is asked, by the rows through an empty point: not where one completes a five, nor after the first kind that
@@ -30,20 +28,10 @@ pub(crate) fn asks_nested(rows: Rows) -> bool
     ensures { result ≡ (not (some_row (starts_of rows.fours)) && not (some_row (starts_of rows.overlinings))
         && not (more_than_one (starts_of rows.swords)) && more_than_one (starts_of rows.twos)) }
 {
-    let fours = rows.fours;
-    let overlinings = rows.overlinings;
-    let swords = rows.swords;
-    let twos = rows.twos;
-    if some_row(fours) {
-        return false;
-    }
-    if some_row(overlinings) {
-        return false;
-    }
-    if more_than_one(swords) {
-        return false;
-    }
-    more_than_one(twos)
+    !some_row(rows.fours)
+        && !some_row(rows.overlinings)
+        && !more_than_one(rows.swords)
+        && more_than_one(rows.twos)
 }
 
 // The one eye of the Three through a point that has this number: the first gap in Black's stones on its line, from its start on.

@@ -9,13 +9,13 @@ use lib.Dec.{eqb, ltb, ltb→lt}
 use lib.ListN.{length, length-append}
 use borrow.Author.Tests.{ne_eqb}
 use Rattle.rules.specs.Refusals.{first, unless}
+use Rattle.rules.specs.Answers.{answer}
 use Rattle.rules.specs.Grid.{stones_of}
 use Rattle.rules.specs.declared.Player.{Player}
 use Rattle.rules.specs.declared.Player.TheVariants.{Black, White}
 use Rattle.rules.proofs.Logic.{no_true}
 use Rattle.rules.proofs.Refusals.{first-none, none_first, passed}
 use Rattle.cells.specs.Cells.{Cells, value_list, stones_cells}
-use Rattle.cells.specs.Answers.{cells_answer}
 use Rattle.board.specs.Answers.{board_answer}
 use Rattle.text.specs.Bytes.{slash, digit_zero, capital_a, trim, trim_end, has, before, behind, text_refusal}
 use Rattle.text.specs.Points.{points_refusal, points_in}
@@ -179,8 +179,8 @@ module _ (s : List ℕ) (z : convert_refusal s ≡ 0) where
       (read.0 ∙ sym parts_none.0, read.1)
 
   -- what the converter writes is read by the live entry as the converter's reader reads the diagram: the same cells
-  pub converted-cells : cells_answer (read_refusal (converted s)) (read_cells (converted s)) ≡ cells_answer (diagram_text_refusal s) (diagram_text_cells s)
-  converted-cells = ap₂ cells_answer live_same.0 live_same.1
+  pub converted-cells : answer (read_refusal (converted s)) (read_cells (converted s)) ≡ answer (diagram_text_refusal s) (diagram_text_cells s)
+  converted-cells = ap₂ answer live_same.0 live_same.1
 
   -- .. and the same board: `text::read_board` of what `convert_diagram` writes, and `text::read_diagram` of the diagram
   pub converted-board : board_answer (read_refusal (converted s)) (read_cells (converted s)) ≡ board_answer (diagram_text_refusal s) (diagram_text_cells s)

@@ -1,35 +1,45 @@
--- How long a side's text is, and that there is one exactly where the side has a stone. Assumes nothing.
-use mathlib.Core.Path.{◌≡◌, refl, ap, ap₂, sym, ◌∙◌}
+-- How long a side's text is, and that it is written where there is room for it. Assumes nothing.
+use mathlib.Core.Path.{◌≡◌, refl, ap, sym}
 use mathlib.Core.Bool.{Bool, true, false}
-use mathlib.Core.List.{List, [], ◌∷◌, ◌++◌, append_assoc}
+use mathlib.Core.List.{List, [], ◌∷◌, ◌++◌}
 use Prim.Native.Nat.{ℕ, ◌≤◌, ◌<◌}
 use native.Mathlib.Omega.{arith}
-use lib.Dec.{eqb, leb, ltb, lt→ltb}
-use lib.ListN.{length, get_or, take, length-append}
-use borrow.Author.Tests.{lt-ltb, le-leb}
+use lib.Dec.{eqb, ltb, lt→ltb}
+use lib.ListN.{length, get_or, take}
+use borrow.Author.Tests.{le-leb}
+use Rattle.std.specs.Prelude.{Ok}
+use Rattle.std.proofs.lemmas.List.{take_at}
+use Rattle.rules.specs.Answers.{answer}
 use Rattle.rules.specs.Refusals.{first, unless}
-use Rattle.rules.specs.Tools.{gather, only, all_below}
+use Rattle.rules.specs.Tools.{only, all_below}
 use Rattle.rules.specs.Grid.{stones_of}
 use Rattle.rules.proofs.Logic.{all-intro}
 use Rattle.rules.proofs.Refusals.{pass}
-use Rattle.lent.specs.Lists.{zeros, list_refusal, list_out, fits, kept_to, kept_in, Held}
-use Rattle.lent.proofs.Laws.{short, gather-length, length-zeros, wrote-held, wrote_as, wrote-same, sets-laid, held-take}
+use Rattle.lent.specs.Lists.{list_refusal, list_out, fits, laid}
+use Rattle.lent.proofs.Laws.{short, gather-length}
 use Rattle.cells.specs.Cells.{cells_refusal, codes_refusal, value_list}
+use Rattle.cells.proofs.Given.{cells-pass}
 use Rattle.text.specs.Bytes.{slash}
-use Rattle.display.specs.Answers.{written, length_answer}
-use Rattle.display.specs.declared.answer.LengthAnswer.{LengthAnswer}
+use Rattle.text.specs.Reading.{diagram_text_refusal, diagram_text_cells}
+use Rattle.text.proofs.Sound.{diagram-text-ok}
+use Rattle.display.specs.Answers.{written}
 use Rattle.display.specs.Texts.{point_item, points_text}
 use Rattle.display.proofs.Sizes.{item-short}
-use Rattle.display.proofs.Writing.{kept, then}
 use Rattle.display.proofs.Shown.{All, all-gather, all-at}
-use Rattle.display.proofs.PointBack.{Points, list-some}
-use Rattle.diagrams.specs.Stones.{side_text, stones_text, side_refusal, sides_refusal, cells_sides_refusal, length_of}
+use Rattle.display.proofs.PointBack.{Points}
+use Rattle.diagrams.specs.Stones.{side_text, stones_text, side_refusal, sides_refusal, cells_sides_refusal, convert_refusal, converted}
 
 -- ---- the codes of a side are points
 
 all-points : (codes : List ℕ) → All (λ c. c < 225) codes → Points codes
 all-points [] h = tt
 all-points (c ∷ codes) h = (h.0, all-points codes h.1)
+
+-- at most five bytes each
+pub list_short : (codes : List ℕ) → length codes ≤ 225 → length (points_text codes) ≤ 1125
+unfolding points_text
+list_short codes few =
+    let a = gather-length 5 (length codes) (point_item codes) (λ i h. item-short (ltb 0 i) (get_or codes i 0)) in omega arith
 
 module _ (cells : List ℕ) (value : ℕ) where
   one : (p : ℕ) → p < 225 → (b : Bool) → All (λ c. c < 225) (only b (p ∷ []))
@@ -50,91 +60,46 @@ module _ (cells : List ℕ) (value : ℕ) where
       (all-intro (length (value_list cells value)) (λ i. ltb (get_or (value_list cells value) i 0) 225)
       (λ i h. lt→ltb (get_or (value_list cells value) i 0) 225 (all-at (λ c. c < 225) (value_list cells value) codes_all i h)))
 
-  codes-few : length (value_list cells value) ≤ 225
+  pub codes-few : length (value_list cells value) ≤ 225
   unfolding value_list
   codes-few = let a = short 1 (λ p. eqb (get_or cells p 0) value) (λ p. p ∷ []) (λ p. omega arith) 225 in omega arith
 
   pub text-short : length (points_text (value_list cells value)) ≤ 1125
-  unfolding points_text
-  text-short =
-      let codes = value_list cells value in
-      let a = gather-length 5 (length codes) (point_item codes) (λ i h. item-short (ltb 0 i) (get_or codes i 0)) in
-      omega (arith, codes-few)
+  text-short = list_short (value_list cells value) codes-few
 
--- a list has a text exactly where it is not empty
-some-text : (codes : List ℕ) → Points codes → ltb 0 (length (points_text codes)) ≡ ltb 0 (length codes)
-unfolding points_text gather
-some-text [] h = refl
-some-text (c ∷ codes) h =
-    lt-ltb 0 (length (points_text (c ∷ codes))) (list-some c codes h) ∙ sym (lt-ltb 0 (length (c ∷ codes)) (omega arith))
+-- ---- a text that is written where there is room for it: it stands in front
 
--- ---- the text of a list, written into a fresh buffer that holds it
+module _ (told : ℕ) (out text : List ℕ) (none : told ≡ 0) (room : length text ≤ length out) where
+  pub fit_told : written told out text ≡ Ok (length text)
+  unfolding written answer list_refusal first unless fits
+  fit_told = rw (none, le-leb (length text) (length out) room)
 
-module _ (size : ℕ) (text : List ℕ) (fit : length text ≤ size) where
-  room : fits (zeros size) text ≡ true
-  unfolding fits
-  room = le-leb (length text) (length (zeros size)) (omega (arith, length-zeros size))
+  pub fit-front : take (length text) (list_out told out text) ≡ text
+  unfolding list_out list_refusal first unless fits laid
+  fit-front = rw (none, le-leb (length text) (length out) room) (take_at text _ (length text) refl)
 
-  pub written_held : (told : ℕ) → told ≡ 0 → (bytes : List ℕ) (n : ℕ) → n ≡ length_of (written told (zeros size) text)
-      → bytes ≡ list_out told (zeros size) text → Held size text bytes n
-  unfolding length_of written length_answer list_out list_refusal first unless
-  written_held told z bytes n en eb =
-      let e : n ≡ length text = rw (z, room) at en in
-      wrote-held size text bytes n
-      (record { buffer = (rw (z, room) at eb) ∙ sym (sets-laid (zeros size) text (omega (arith, length-zeros size))); place = omega arith }) fit
+-- ---- the two sides of cells
 
--- the text of a side, as the code writes it
-module _ (cells : List ℕ) (value : ℕ) (codes : List ℕ) (e : codes ≡ value_list cells value) where
-  pub side-held : (bytes : List ℕ) (n : ℕ) (answer : LengthAnswer)
-      → (answer ≡ written (codes_refusal codes) (zeros 1125) (points_text codes))
-      × (bytes ≡ list_out (codes_refusal codes) (zeros 1125) (points_text codes)) → n ≡ length_of answer
-      → Held 1125 (points_text (value_list cells value)) bytes n
-  side-held bytes n answer k en =
-      written_held 1125 (points_text (value_list cells value)) (text-short cells value) (codes_refusal (value_list cells value))
-      (codes-good cells value) bytes n
-      (en ∙ ap length_of (k.0 ∙ ap (λ (l : List ℕ). written (codes_refusal l) (zeros 1125) (points_text l)) e))
-      (k.1 ∙ ap (λ (l : List ℕ). list_out (codes_refusal l) (zeros 1125) (points_text l)) e)
-
--- ---- two texts with a slash between them, as the code keeps them
-module _ (a b : List ℕ) (la : length a ≤ 1125) (lb : length b ≤ 1125) where
-  pub joined-held : {one two three : List ℕ} {i j n : ℕ}
-      → (i ≡ kept_to (zeros 2251) 0 true a) × (one ≡ kept_in (zeros 2251) 0 true a)
-      → (j ≡ kept_to one i true (slash ∷ [])) × (two ≡ kept_in one i true (slash ∷ []))
-      → (n ≡ kept_to two j true b) × (three ≡ kept_in two j true b) → Held 2251 (a ++ slash ∷ b) three n
-  joined-held {one} {two} {three} {i} {j} {n} k l m =
-      let z = length-zeros 2251 in
-      let u = kept true a (omega arith) k in
-      let pu = u.place in
-      let su = wrote-same u in
-      let v = kept true (slash ∷ []) (omega arith) l in
-      let pv = v.place in
-      let sv = wrote-same v in
-      let w = kept true b (omega arith) m in
-      let all = wrote_as (then (then u v) w) (append_assoc a (slash ∷ []) b) in
-      wrote-held 2251 (a ++ slash ∷ b) three n all (omega (arith, length-append a (slash ∷ b)))
-
--- ---- the two sides
-
-module _ (cells : List ℕ) (b w : ℕ) (hb : b ≡ length (points_text (value_list cells 1))) (hw : w ≡ length (points_text (value_list cells 2))) where
-  one_side : (v n : ℕ) → n ≡ length (points_text (value_list cells v)) → ltb 0 n ≡ ltb 0 (length (value_list cells v))
-  one_side v n e = ap (ltb 0) e ∙ some-text (value_list cells v) (codes-points cells v)
-
-  pub sides-told : first (unless (ltb 0 b) 22) (unless (ltb 0 w) 22) ≡ sides_refusal cells
+module _ (cells : List ℕ) {blacks whites : List ℕ} (hb : blacks ≡ value_list cells 1) (hw : whites ≡ value_list cells 2) where
+  pub sides-told : first (unless (ltb 0 (length blacks)) 22) (unless (ltb 0 (length whites)) 22) ≡ sides_refusal cells
   unfolding sides_refusal side_refusal stones_of value_list
-  sides-told = ap₂ (λ (x y : Bool). first (unless x 22) (unless y 22)) (one_side 1 b hb) (one_side 2 w hw)
+  sides-told = rw (hb, hw)
 
--- what the code puts together is the stones text, and what it refuses is what is to be refused, 13 last
-module _ (cells out : List ℕ) (black white : List ℕ) (b w : ℕ) (hb : Held 1125 (points_text (value_list cells 1)) black b)
-    (hw : Held 1125 (points_text (value_list cells 2)) white w) where
-  pub both-text : take b black ++ slash ∷ take w white ≡ stones_text cells
+  pub both-text : points_text blacks ++ slash ∷ points_text whites ≡ stones_text cells
   unfolding stones_text side_text stones_of value_list
-  both-text = ap₂ (λ (x y : List ℕ). x ++ slash ∷ y) (held-take 1125 hb) (held-take 1125 hw)
+  both-text = rw (hb, hw)
 
-  pub all_told : {unsound one other sides room len : ℕ} → unsound ≡ cells_refusal cells → one ≡ unless (ltb 0 b) 22
-      → other ≡ unless (ltb 0 w) 22 → sides ≡ first one other → len ≡ length (stones_text cells)
-      → room ≡ unless (leb len (length out)) 13
-      → first (first unsound sides) room ≡ list_refusal (cells_sides_refusal cells) out (stones_text cells)
-  unfolding list_refusal fits cells_sides_refusal
-  all_told eu eo et es el er =
-      ap₂ first (ap₂ first eu (es ∙ ap₂ first eo et ∙ sides-told cells b w hb.count hw.count))
-      (er ∙ ap (λ (n : ℕ). unless (leb n (length out)) 13) el)
+  pub all_told : cells_refusal cells ≡ 0 → cells_sides_refusal cells ≡ first (unless (ltb 0 (length blacks)) 22) (unless (ltb 0 (length whites)) 22)
+  unfolding cells_sides_refusal first
+  all_told e = rw (e) (sym sides-told)
+
+-- ---- a saved diagram, as it was read
+
+module _ (s : List ℕ) {cells : List ℕ} where
+  pub read_sides : diagram_text_refusal s ≡ 0 → cells ≡ diagram_text_cells s → cells_sides_refusal cells ≡ convert_refusal s
+  unfolding cells_sides_refusal convert_refusal first
+  read_sides z e = rw (e, cells-pass (diagram_text_cells s) (diagram-text-ok s), z)
+
+  pub read_text : cells ≡ diagram_text_cells s → stones_text cells ≡ converted s
+  unfolding converted
+  read_text e = ap stones_text e

@@ -9,8 +9,6 @@ use Rattle.cells.specs.Cells.{cells_refusal}
 use Rattle.text.specs.Bytes.{slash}
 use Rattle.text.specs.Reading.{diagram_text_refusal, diagram_text_cells}
 use Rattle.display.specs.Texts.{points_text}
-use Rattle.display.specs.declared.answer.LengthAnswer.{LengthAnswer}
-use Rattle.display.specs.declared.answer.LengthAnswer.TheVariants as answer
 
 -- ---- "writes stones text, black then white, each by ascending code"
 
@@ -40,10 +38,3 @@ convert_refusal s = first (diagram_text_refusal s) (sides_refusal (diagram_text_
 
 unfoldable pub converted : List ℕ → List ℕ
 converted s = stones_text (diagram_text_cells s)
-
--- ---- what the code keeps
-
--- the length that an answer gives, 0 where it is a refusal
-unfoldable pub length_of : LengthAnswer → ℕ
-length_of (answer.Is n) = n
-length_of (answer.Refused refused) = 0

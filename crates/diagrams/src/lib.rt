@@ -2,7 +2,6 @@
 #![tactic(auto)]
 
 mod convert;
-mod side;
 mod stones;
 
 pub use convert::convert_diagram;

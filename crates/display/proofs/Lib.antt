@@ -1,8 +1,8 @@
 -- The laws behind `display`, for other crates to cite.
--- texts written one behind the other into a buffer, and handed out
-pub mod Writing
--- one step of each loop that writes
+-- the cells that are written one step after the other
 pub mod Steps
+-- a turn of a loop that writes
+pub mod Turns
 -- how long the texts are
 pub mod Sizes
 -- which bytes and which cells they show

@@ -9,7 +9,9 @@ use lib.Dec.{T, eqb, leb, ltb, leb→le}
 use lib.ListN.{length, get_or, length-append, get_or-append, get_or-eq_default}
 use lib.Seq.{get_or_at}
 use borrow.Author.Tests.{le-leb, le-ltb, ltb-true, ltb-false}
+use Rattle.std.specs.Prelude.{Ok}
 use Rattle.rules.specs.Refusals.{first, unless}
+use Rattle.rules.specs.Answers.{answer}
 use Rattle.rules.specs.Tools.{gather, all_below}
 use Rattle.rules.specs.Bit.{bit}
 use Rattle.rules.specs.Line.{no_stone, sound_at, sound_line}
@@ -18,9 +20,7 @@ use Rattle.rules.proofs.Logic.{decide, all-elim, and_left, and_right, not-false}
 use Rattle.rules.proofs.Bits.{mask-ext}
 use Rattle.rules.proofs.Refusals.{first-none, passed}
 use Rattle.line.specs.Lines.{blacks, whites, size_refusal, line_refusal}
-use Rattle.line.specs.Answers.{line_answer}
 use Rattle.line.specs.declared.line.Line.{Line}
-use Rattle.line.specs.declared.answer.LineAnswer.TheVariants as line
 use Rattle.text.specs.Bytes.{dot, small_o, small_x, dense}
 use Rattle.text.specs.Lines.{marked, length_refusal, line_in, line_text_refusal}
 use Rattle.display.specs.Texts.{letter_or, values_of, cell_text, line_text, text_of_line}
@@ -149,8 +149,8 @@ module _ (l : Line) (good : line_refusal l ≡ 0) where
 
   -- a sound line that is written reads back as the same line: `text::read_line` of what `write_line` writes. Its masks have 16 bits.
   pub line-back : l.blacks < 2 ^ 16 → l.whites < 2 ^ 16
-      → line_answer (line_text_refusal (text_of_line l)) (line_in (text_of_line l)) ≡ line.Is l
-  unfolding line_answer line_in marked
+      → answer (line_text_refusal (text_of_line l)) (line_in (text_of_line l)) ≡ Ok l
+  unfolding answer line_in marked
   line-back b w =
       rw (
         line-pass,

@@ -8,11 +8,11 @@ use native.Mathlib.Omega.{arith}
 use lib.Dec.{T, eqb, leb, ltb, eqb→eq}
 use lib.ListN.{length, get_or, length-append}
 use borrow.Author.Tests.{lt-ltb, ne_eqb, le-leb, lt-leb}
+use Rattle.std.specs.Prelude.{Ok}
 use Rattle.rules.specs.Refusals.{first, unless}
 use Rattle.rules.specs.Point.{x_of, y_of}
 use Rattle.rules.specs.Tools.{all_below, gather, only}
-use Rattle.rules.specs.Answers.{number_answer}
-use Rattle.rules.specs.declared.answer.NumberAnswer.TheVariants as number
+use Rattle.rules.specs.Answers.{answer}
 use Rattle.rules.proofs.Logic.{all-elim, and_left, and_right, not-false}
 use Rattle.rules.proofs.Lists.{gather-front, gather_cong}
 use Rattle.rules.proofs.Refusals.{none_first}
@@ -63,8 +63,8 @@ module _ (p : ℕ) (h : p < 225) where
   point-low = point-has (λ b. b < 128) (λ x l. omega arith) (λ d l. omega arith)
 
   -- a point that is written reads back as the same point: `text::read_point` of what `write_point` writes
-  pub point-back : number_answer (point_text_refusal (point_text p)) (item_code (point_text p)) ≡ number.Is p
-  unfolding number_answer point_text_refusal first
+  pub point-back : answer (point_text_refusal (point_text p)) (item_code (point_text p)) ≡ Ok p
+  unfolding answer point_text_refusal first
   point-back = rw (all-text (point_text p) point-low (omega (arith, point-short p)), point-good, point-code)
 
 -- ---- a list of points, from the front on

@@ -8,18 +8,18 @@ use native.Mathlib.Omega.{arith}
 use lib.Dec.{eqb, leb, ltb}
 use lib.ListN.{length, get_or, take, drop, get_or-map, length-map}
 use borrow.Author.Tests.{eq-eqb}
+use Rattle.std.specs.Prelude.{Ok}
 use Rattle.rules.specs.Refusals.{first, unless}
+use Rattle.rules.specs.Answers.{answer}
 use Rattle.rules.specs.Tools.{gather, tab, only, all_below}
 use Rattle.rules.specs.Point.{x_of, y_of, code_of}
 use Rattle.rules.proofs.Lists.{is-tab, tab-cong}
 use Rattle.rules.proofs.Logic.{and-flip, no_true}
 use Rattle.cells.specs.Cells.{Cells}
-use Rattle.cells.specs.Answers.{cells_answer}
 use Rattle.grid.proofs.Lines.{cells-cells_of}
 use Rattle.board.specs.Boards.{cells, board_refusal}
-use Rattle.board.specs.Answers.{answer_with, board_answer}
+use Rattle.board.specs.Answers.{board_answer}
 use Rattle.board.specs.declared.board.Board.{Board}
-use Rattle.board.specs.declared.answer.BoardAnswer.{BoardAnswer}
 use Rattle.board.proofs.Given.{whole-board}
 use Rattle.text.specs.Bytes.{newline, blank, comma, dot, slash, small_o, small_x, space, trim, trim_start, trim_end, dense, has, parts}
 use Rattle.text.specs.Bytes.{onto_first, text_refusal}
@@ -205,8 +205,8 @@ module _ (grid : List ℕ) where
 
   -- cells that are written as a plain diagram read back as the same cells: `text::read_diagram_cells` of what `write_diagram_of` writes
   pub cells-back : Cells grid
-      → cells_answer (diagram_text_refusal (diagram_of grid)) (diagram_text_cells (diagram_of grid)) ≡ record { refused = 0; cells = grid }
-  unfolding cells_answer
+      → answer (diagram_text_refusal (diagram_of grid)) (diagram_text_cells (diagram_of grid)) ≡ Ok grid
+  unfolding answer
   cells-back ok = rw (diagram-pass, diagram-said ok)
 
   -- .. and the live entry, which takes no diagram, refuses it, whatever the cells: it is no point
@@ -229,10 +229,7 @@ module _ (grid : List ℕ) where
 module _ (b : Board) (h : board_refusal b ≡ 0) where
   -- a sound board that is written as a plain diagram reads back as the same board: `text::read_diagram` of what `write_diagram` writes
   pub reads-back : board_answer (diagram_text_refusal (diagram_of (cells b))) (diagram_text_cells (diagram_of (cells b)))
-      ≡ record { refused = 0; board = b }
-  unfolding board_answer answer_with
+      ≡ Ok b
+  unfolding board_answer answer
   reads-back =
-      rw (diagram-pass (cells b), diagram-said (cells b) (cells-cells_of b.lines)) (ap answer (sym (whole-board b h)))
-    where
-      answer : Board → BoardAnswer
-      answer x = record { refused = 0; board = x }
+      rw (diagram-pass (cells b), diagram-said (cells b) (cells-cells_of b.lines), ← whole-board b h)

@@ -14,9 +14,9 @@ use Rattle.rules.proofs.Logic.{decide}
 use Rattle.lent.proofs.Laws.{gather-more, only-length}
 use Rattle.line.specs.declared.line.Line.{Line}
 use Rattle.line.specs.Lines.{blacks, whites}
-use Rattle.text.specs.Bytes.{newline, blank, comma, capital_a}
+use Rattle.text.specs.Bytes.{newline, blank, comma, dash, bar, capital_a}
 use Rattle.display.specs.Texts.{digit_text, number_text, right_aligned, point_text, item_text, values_of, cell_text, line_text, text_of_line}
-use Rattle.display.specs.Texts.{row_text, barred, bar_before, segment_text, plain_row, diagram_of, numbered_row, columns_text, numbered_of}
+use Rattle.display.specs.Texts.{letter_or, row_text, barred, bar_before, segment_text, plain_row, diagram_of, numbered_row, columns_text, numbered_of}
 
 -- as many bytes in each part
 gather-size : (k n : ℕ) (f : ℕ → List ℕ) → ((i : ℕ) → i < n → length (f i) ≡ k) → length (gather n f) ≡ n * k
@@ -24,6 +24,20 @@ unfolding gather
 gather-size k zero f h = omega arith
 gather-size k (suc n) f h =
     rw (length-append (gather n f) (f n)) (omega (arith, gather-size k n f (λ i l. h i (omega arith)), h n (omega arith)))
+
+-- the next part fits where the whole does
+pub part-fits : (f : ℕ → List ℕ) (i n : ℕ) → i < n → length (gather i f) + length (f i) ≤ length (gather n f)
+unfolding gather
+part-fits f i zero h = omega arith
+part-fits f i (suc n) h = go (decide (ltb i n)) (part-fits f i n)
+  where
+    go : (ltb i n ≡ true) ⊎ (ltb i n ≡ false) → (i < n → length (gather i f) + length (f i) ≤ length (gather n f))
+        → length (gather i f) + length (f i) ≤ length (gather n f ++ f n)
+    go (inl e) g = rw (length-append (gather n f) (f n)) (omega (arith, g (ltb-true i n e)))
+    go (inr e) g =
+        let le = ltb-false i n e in
+        let same : i ≡ n = omega arith in
+        rw (same, length-append (gather n f) (f n)) (omega arith)
 
 -- ---- numbers and points
 
@@ -49,9 +63,9 @@ item-short behind code =
     omega (arith, only-length behind (comma ∷ []), point-short code)
 
 -- a number below 100 takes two places
-right-two : (n : ℕ) → n < 100 → length (right_aligned n) ≡ 2
+pub right_two : (n : ℕ) → n < 100 → length (right_aligned n) ≡ 2
 unfolding right_aligned number_text
-right-two n h = go (decide (ltb n 10))
+right_two n h = go (decide (ltb n 10))
   where
     go : (ltb n 10 ≡ true) ⊎ (ltb n 10 ≡ false)
         → length (only (ltb n 10) (blank ∷ [])
@@ -69,25 +83,37 @@ pub line-short : (l : Line) → l.size ≤ 15 → length (text_of_line l) ≤ 30
 unfolding text_of_line
 line-short l h = omega (arith, line-length l.size (values_of (blacks l) (whites l)))
 
+pub barred-short : (k value : ℕ) → length (barred k value) ≤ 2
+unfolding barred
+barred-short k value =
+    let e = length-append (only (bar_before k) (bar ∷ [])) (letter_or dash value ∷ []) in
+    omega (arith, only-length (bar_before k) (bar ∷ []))
+
 pub segment-length : (value : ℕ → ℕ) → length (segment_text value) ≡ 9
 unfolding segment_text gather barred bar_before
 segment-length value = refl
 
 -- ---- diagrams
 
-row-length : (cells : List ℕ) (y : ℕ) → length (row_text cells y) ≡ 30
+pub row_length : (cells : List ℕ) (y : ℕ) → length (row_text cells y) ≡ 30
 unfolding row_text
-row-length cells y = line-length 15 _
+row_length cells y = line-length 15 _
 
 -- a row that another follows
 plain-row-length : (cells : List ℕ) (k : ℕ) → k < 14 → length (plain_row cells k) ≡ 31
 unfolding plain_row
 plain-row-length cells k h =
-    rw (lt-ltb k 14 h) (length-append (row_text cells (14 - k)) (newline ∷ []) ∙ ap (λ (n : ℕ). n + 1) (row-length cells (14 - k)))
+    rw (lt-ltb k 14 h) (length-append (row_text cells (14 - k)) (newline ∷ []) ∙ ap (λ (n : ℕ). n + 1) (row_length cells (14 - k)))
 
 last-row-length : (cells : List ℕ) → length (plain_row cells 14) ≡ 30
 unfolding plain_row
-last-row-length cells = length-append (row_text cells 0) [] ∙ ap (λ (n : ℕ). n + 0) (row-length cells 0)
+last-row-length cells = length-append (row_text cells 0) [] ∙ ap (λ (n : ℕ). n + 0) (row_length cells 0)
+
+pub plain-row-short : (cells : List ℕ) (k : ℕ) → length (plain_row cells k) ≤ 31
+unfolding plain_row
+plain-row-short cells k =
+    let e = length-append (row_text cells (14 - k)) (only (ltb k 14) (newline ∷ [])) in
+    omega (arith, row_length cells (14 - k), only-length (ltb k 14) (newline ∷ []))
 
 -- "464 bytes"
 pub diagram-length : (cells : List ℕ) → length (diagram_of cells) ≡ 464
@@ -104,7 +130,11 @@ numbered-row-length cells k h =
     let b = row_text cells (14 - k) in
     let x = length-append (a ++ b) (newline ∷ []) in
     let y = length-append a b in
-    omega (arith, right-two (15 - k) (omega arith), row-length cells (14 - k))
+    omega (arith, right_two (15 - k) (omega arith), row_length cells (14 - k))
+
+-- the rows above row k
+pub numbered-rows-length : (cells : List ℕ) (n : ℕ) → n ≤ 15 → length (gather n (numbered_row cells)) ≡ n * 33
+numbered-rows-length cells n h = gather-size 33 n (numbered_row cells) (λ k l. numbered-row-length cells k (omega arith))
 
 columns-length : length columns_text ≡ 32
 unfolding columns_text gather
@@ -115,4 +145,4 @@ pub numbered-length : (cells : List ℕ) → length (numbered_of cells) ≡ 527
 unfolding numbered_of
 numbered-length cells =
     let e = length-append (gather 15 (numbered_row cells)) columns_text in
-    omega (arith, gather-size 33 15 (numbered_row cells) (numbered-row-length cells), columns-length)
+    omega (arith, numbered-rows-length cells 15 (omega arith), columns-length)

@@ -22,9 +22,9 @@ unfolding line_text
 line_same size f g h =
     gather_cong size (cell_text f) (cell_text g) (λ i l. ap (λ (v : ℕ). blank ∷ letter_or dot v ∷ []) (h i l))
 
-pub row-steps : (cells : List ℕ) (y : ℕ) → line_text 15 (stepped cells y 15) ≡ row_text cells y
+pub row_steps : (cells : List ℕ) (y : ℕ) → line_text 15 (stepped cells y 15) ≡ row_text cells y
 unfolding row_text
-row-steps cells y =
+row_steps cells y =
     line_same 15 _ _ (λ x h. let e : y + 15 * x ≡ 15 * x + y = omega arith in ap (λ (p : ℕ). get_or cells p 0) e)
 
 pub line-steps : (l : Line) → l.size ≤ 15 → line_text l.size (stepped (tab 16 (values_of (blacks l) (whites l))) 0 1) ≡ text_of_line l

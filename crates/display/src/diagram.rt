@@ -1,69 +1,67 @@
 // The plain diagram: rows 15 down to 1, parted by byte 10.
-ghost use Rattle.std.specs.Prelude.{◌≡◌, ◌+◌, ◌<◌, ◌≤◌, length};
-ghost use Rattle.lent.specs.Lists.{list_out, Wrote};
+ghost use Rattle.std.specs.Prelude.{◌≡◌, ◌+◌, ◌<◌, ◌≤◌, ◌++◌, length};
+ghost use Rattle.lent.specs.Lists.{list_out};
 ghost use Rattle.cells.specs.Cells.{cells_refusal};
 ghost use Rattle.board.specs.Boards.{cells, board_refusal};
 ghost use Rattle.display.specs.Answers.{written};
 ghost use Rattle.display.specs.Texts.{row_text, plain_row, diagram_of};
 
-use super::answer::LengthAnswer;
-use super::layout::{hand_out, keep_byte};
+use super::layout::{hand_out, put_if};
 use super::line_text::line_into;
 use board::Board;
 use cells::cells_refusal;
 use grid::cells_on;
+use lent::Kept;
+use rules::Refusal;
 
 // 464 bytes: 9 for a board that is not sound.
-pub fn write_diagram(board: Board, out: &mut [u8]) -> LengthAnswer
+#[tactic(auto, unfolding(crate::specs::Answers::written, rules::specs::Answers::answer, lent::specs::Lists::list_refusal, lent::specs::Lists::list_out, rules::specs::Refusals::first))]
+pub fn write_diagram(board: Board, out: &mut [u8]) -> Result<usize, Refusal>
     ensures { (result ≡ written (board_refusal board) out.old (diagram_of (cells board)))
         × (out.new ≡ list_out (board_refusal board) out.old (diagram_of (cells board))) }
 {
-    let refused = board.refusal();
-    if refused != 0 {
-        return LengthAnswer::Refused(refused);
-    }
+    board.refusal()?;
     let lines = board.lines;
     let cells = cells_on(&lines);
-    write_diagram_of(&cells, out)
+    hand_out(diagram_in(&cells).as_slice(), out)
 }
 
 // The same of cell bytes: 9 for bytes of another length than 225, or with a byte over 2.
-pub fn write_diagram_of(cells: &[u8], out: &mut [u8]) -> LengthAnswer
+#[tactic(auto, unfolding(crate::specs::Answers::written, rules::specs::Answers::answer, lent::specs::Lists::list_refusal, lent::specs::Lists::list_out, rules::specs::Refusals::first))]
+pub fn write_diagram_of(cells: &[u8], out: &mut [u8]) -> Result<usize, Refusal>
     ensures { (result ≡ written (cells_refusal cells.now) out.old (diagram_of cells.now))
         × (out.new ≡ list_out (cells_refusal cells.now) out.old (diagram_of cells.now)) }
 {
-    let mut bytes = [0u8; 464];
-    let n = diagram_into(&mut bytes, cells);
-    hand_out(cells_refusal(cells), &bytes, n, out)
+    cells_refusal(cells)?;
+    hand_out(diagram_in(cells).as_slice(), out)
 }
 
-// The rows from the front on; the next place.
-fn diagram_into(buf: &mut [u8], cells: &[u8]) -> usize
-    requires { length (diagram_of cells.now) ≤ length buf.old }
-    ensures { Wrote buf.old 0 (diagram_of cells.now) buf.new result }
+// The rows: there is room for a byte 10 behind each.
+fn diagram_in(cells: &[u8]) -> Kept<465>
+    ensures { result ≡ diagram_of cells.now }
 {
-    let mut n = 0usize;
-    let mut k = 0u8;
-    while k < 15 {
-        n = plain_row_into(buf, n, cells, k);
-        k += 1;
+    let mut text = Kept::new();
+    for k in 0..15u8 {
+        plain_row_into(cells, k, &mut text);
     }
-    n
+    text
 }
 
 // Row k from the top, and byte 10 where another follows.
-fn plain_row_into(buf: &mut [u8], at: usize, cells: &[u8], k: u8) -> usize
-    requires { (at + length (plain_row cells.now k) ≤ length buf.old) × (k < 15) }
-    ensures { Wrote buf.old at (plain_row cells.now k) buf.new result }
+#[tactic(auto, unfolding(crate::specs::Texts::plain_row))]
+fn plain_row_into<const N: usize>(cells: &[u8], k: u8, text: &mut Kept<N>)
+    requires { (length text.old + 31 ≤ N) × (k < 15) }
+    ensures { text.new ≡ text.old ++ plain_row cells.now k }
 {
-    let end = row_into(buf, at, cells, 14 - k);
-    keep_byte(buf, end, k < 14, b'\n')
+    row_into(cells, 14 - k, text);
+    put_if(k < 14, b"\n", text);
 }
 
 // The cells of horizontal line y, which lie 15 codes apart.
-pub(crate) fn row_into(buf: &mut [u8], at: usize, cells: &[u8], y: u8) -> usize
-    requires { (at + length (row_text cells.now y) ≤ length buf.old) × (y < 15) }
-    ensures { Wrote buf.old at (row_text cells.now y) buf.new result }
+#[tactic(auto, using(crate::proofs::Steps::row_steps))]
+pub(crate) fn row_into<const N: usize>(cells: &[u8], y: u8, text: &mut Kept<N>)
+    requires { (length text.old + 30 ≤ N) × (y < 15) }
+    ensures { text.new ≡ text.old ++ row_text cells.now y }
 {
-    line_into(buf, at, cells, y, 15, 15)
+    line_into(cells, y, 15, 15, text);
 }

@@ -1,24 +1,37 @@
-// What all texts share: a byte is kept, and a text that was laid out is handed out.
-ghost use Rattle.std.specs.Prelude.{◌≡◌, [], ◌∷◌, take};
-ghost use Rattle.lent.specs.Lists.{kept_to, kept_in, list_refusal, list_out};
-ghost use Rattle.display.specs.Answers.{length_answer};
+// What all texts share: bytes are put at the end of a text, and a text that was laid out is handed out.
+ghost use Rattle.std.specs.Prelude.{◌≡◌, ◌+◌, ◌≤◌, ◌++◌, length};
+ghost use Rattle.rules.specs.Tools.{only};
+ghost use Rattle.lent.specs.Lists.{list_out};
+ghost use Rattle.display.specs.Answers.{written};
 
-use super::answer::LengthAnswer;
-use lent::{keep, write_out};
+use lent::{Kept, write_out};
+use rules::Refusal;
 
-// A byte kept at place n of a buffer, if on; the next place.
-pub(crate) fn keep_byte(buf: &mut [u8], n: usize, on: bool, byte: u8) -> usize
-    ensures { (result ≡ kept_to buf.old n on (byte ∷ []))
-        × (buf.new ≡ kept_in buf.old n on (byte ∷ [])) }
+// Bytes put at the end of a text, if on.
+#[tactic(auto, unfolding(lent::specs::Lists::kept))]
+pub(crate) fn put_if<const N: usize>(on: bool, bytes: &[u8], text: &mut Kept<N>)
+    requires { length text.old + length bytes.now ≤ N }
+    ensures { text.new ≡ text.old ++ only on bytes.now }
 {
-    keep(buf, n, on, &[byte])
+    if on {
+        text.keep(bytes);
+    }
 }
 
-// A text of n bytes written to the front of `out`, and its length; or what was refused, or 13.
-pub(crate) fn hand_out(refused: u8, text: &[u8], n: usize, out: &mut [u8]) -> LengthAnswer
-    ensures { (result ≡ length_answer (list_refusal refused out.old (take n text.now)) n)
-        × (out.new ≡ list_out refused out.old (take n text.now)) }
+#[tactic(auto, unfolding(lent::specs::Lists::kept))]
+pub(crate) fn put<const N: usize>(bytes: &[u8], text: &mut Kept<N>)
+    requires { length text.old + length bytes.now ≤ N }
+    ensures { text.new ≡ text.old ++ bytes.now }
 {
-    let refusal = write_out(refused, out, text, n);
-    LengthAnswer::of(refusal, n)
+    text.keep(bytes);
+}
+
+// A text written to the front of `out`, and its length; or 13.
+#[tactic(auto, unfolding(crate::specs::Answers::written, rules::specs::Answers::answer))]
+pub(crate) fn hand_out(text: &[u8], out: &mut [u8]) -> Result<usize, Refusal>
+    ensures { (result ≡ written 0 out.old text.now)
+        × (out.new ≡ list_out 0 out.old text.now) }
+{
+    write_out(text, out)?;
+    Ok(text.len())
 }

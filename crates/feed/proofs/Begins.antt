@@ -3,15 +3,15 @@ use mathlib.Core.Path.{◌≡◌, refl, sym, ap, ◌∙◌}
 use mathlib.Core.Logic.{◌⊎◌, inl, inr}
 use mathlib.Core.Bool.{Bool, true, false, ◌&&◌, ◌||◌, cond}
 use mathlib.Core.List.{List, [], ◌∷◌, ◌++◌, append-nil}
-use Prim.Native.Nat.{ℕ, zero, suc, ◌+◌, ◌-◌, ◌≤◌, ◌<◌}
+use Prim.Native.Nat.{ℕ, zero, suc, ◌≤◌, ◌<◌}
 use native.Mathlib.Omega.{arith}
-use native.Mathlib.Numerals.{add-one}
 use native.Mathlib.Nat.{not-suc-le-zero, le_of_suc-le-suc}
 use denote.Ref.{Bor}
 use lib.Dec.{T, eqb, ltb, eqb→eq}
-use lib.ListN.{length, get_or, take, drop, length-drop, drop_of_length-le}
-use lib.Seq.{drop-cons, take_all}
-use borrow.Author.Tests.{eq-eqb, ne_eqb, eqb-true, eqb-false, ltb-true, ltb-false}
+use lib.ListN.{length, take, drop, drop_of_length-le}
+use lib.Seq.{take_all}
+use borrow.Author.Tests.{eq-eqb, eqb-true, eqb-false, ltb-true, ltb-false}
+use Rattle.std.specs.List.{starts_with}
 use Rattle.rules.proofs.Logic.{decide, no_true, T_true, true-T, and_left, and_right, or_cases}
 use Rattle.rules.proofs.Refusals.{passed}
 use Rattle.feed.specs.Compare.{begins, longer_of, missing_refusal, missing_part, missing_place, behind}
@@ -21,7 +21,7 @@ both_false : (b : Bool) → b && false ≡ false
 both_false true = refl
 both_false false = refl
 
--- ---- as a loop compares: byte by byte
+-- ---- as bytes are compared
 
 pub begins-longer : (s t : List ℕ) → length t < length s → begins s t ≡ false
 unfolding begins
@@ -29,20 +29,12 @@ begins-longer [] t h = absurd (not-suc-le-zero h)
 begins-longer (x ∷ s) [] h = refl
 begins-longer (x ∷ s) (y ∷ t) h = rw (begins-longer s t (le_of_suc-le-suc h)) (both_false (eqb x y))
 
--- one byte further, where both have the same byte; and where they differ
-pub begins-more : (s t : List ℕ) (i : ℕ) → i < length s → i < length t → get_or s i 0 ≡ get_or t i 0
-    → begins (drop i s) (drop i t) ≡ begins (drop (i + 1) s) (drop (i + 1) t)
+-- .. as `starts_with` does it
+pub begins_starts : (s t : List ℕ) → starts_with eqb t s ≡ begins s t
 unfolding begins
-begins-more s t i hs ht e = rw (drop-cons s i 0 hs, drop-cons t i 0 ht, add-one i, eq-eqb (get_or s i 0) (get_or t i 0) e)
-
-pub begins-differ : (s t : List ℕ) (i : ℕ) → i < length s → i < length t → (get_or s i 0 ≡ get_or t i 0 → ⊥)
-    → begins (drop i s) (drop i t) ≡ false
-unfolding begins
-begins-differ s t i hs ht e = rw (drop-cons s i 0 hs, drop-cons t i 0 ht, ne_eqb (get_or s i 0) (get_or t i 0) e)
-
-pub begins-end : (s t : List ℕ) (i : ℕ) → length s ≤ i → begins (drop i s) (drop i t) ≡ true
-unfolding begins
-begins-end s t i h = rw (drop_of_length-le s {i = i} h)
+begins_starts [] t = refl
+begins_starts (x ∷ s) [] = refl
+begins_starts (x ∷ s) (y ∷ t) = ap (λ (b : Bool). eqb x y && b) (begins_starts s t)
 
 -- ---- what it says
 
@@ -53,10 +45,6 @@ begins-fits s t e = go (ltb (length t) (length s)) refl
     go : (b : Bool) → ltb (length t) (length s) ≡ b → length s ≤ length t
     go true q = absurd (no_true (sym (begins-longer s t (ltb-true (length t) (length s) q)) ∙ e))
     go false q = ltb-false (length t) (length s) q
-
--- what is behind the first n bytes, taken whole
-pub rest-whole : (s : List ℕ) (n : ℕ) → take (length s - n) (drop n s) ≡ drop n s
-rest-whole s n = take_all (length s - n) (drop n s) (omega (arith, length-drop n s))
 
 -- the first part of a list begins it
 pub part-begins : (s t : List ℕ) → FirstPart s t → begins s t ≡ true

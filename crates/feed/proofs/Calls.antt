@@ -8,17 +8,15 @@ use contract.Lifetimes.{Lfts}
 use denote.MutBor.{MutBor}
 use lib.ListN.{length, drop}
 use borrow.Author.Tests.{eq-eqb, ne_eqb}
-use Rattle.rules.specs.Answers.{count_answer}
-use Rattle.rules.specs.declared.answer.CountAnswer.{CountAnswer}
-use Rattle.rules.specs.declared.answer.CountAnswer.TheVariants.{Is, Refused}
+use Rattle.std.specs.Prelude.{Result, Ok, Err}
+use Rattle.rules.specs.Answers.{answer, refusal_named}
+use Rattle.rules.specs.declared.refusal.Refusal.{Refusal}
 use Rattle.feed.specs.declared.message.Message.{Message}
 use Rattle.feed.specs.declared.message.Answer.{Answer}
 use Rattle.feed.specs.declared.client.Client.{Client}
 use Rattle.feed.specs.declared.client.Taken.{Taken}
 use Rattle.feed.specs.declared.server.Server.{Server}
-use Rattle.feed.specs.declared.server.ServerAnswer.{ServerAnswer}
-use Rattle.feed.specs.declared.server.MessageAnswer.{MessageAnswer}
-use Rattle.feed.specs.Runs.{State, begun, Event, adds_move, takes_move_back, sends_move, message_arrives, asks_client, hears_answer, served, with_sent, delivered, heard_by, next, run}
+use Rattle.feed.specs.Runs.{State, begun, Event, adds_move, takes_move_back, sends_move, message_arrives, asks_client, hears_answer, served, with_sent, delivered, heard_by, or_same, next, run}
 use Rattle.feed.specs.Feed.{refusal_by, takes, held_refusal}
 use Rattle.feed.specs.Runs.{AgreeAt, Quiet}
 use Rattle.feed.proofs.Lent.{Keeps, same-refusal, same_taken, same-refused}
@@ -53,18 +51,20 @@ client-starts κs g h r (s, e) = sym e
 
 module _ (κs : Lfts 0) (s : State) where
   -- `Server::add`, `take_back` and `message`
-  pub adds-called : (code : ℕ) (r : ServerAnswer) → Answered (add.Post κs (s.server, (code, tt))) r → (next s (adds_move code)).server ≡ r.server
+  pub adds-called : (code : ℕ) (r : Result Server Refusal) → Answered (add.Post κs (s.server, (code, tt))) r
+      → (next s (adds_move code)).server ≡ or_same s.server r
   unfolding next served
-  adds-called code r (_, e) = ap (λ (a : ServerAnswer). a.server) (sym e)
+  adds-called code r (_, e) = ap (λ (a : Result Server Refusal). or_same s.server a) (sym e)
 
-  pub back-called : (r : ServerAnswer) → Answered (take_back.Post κs (s.server, tt)) r → (next s takes_move_back).server ≡ r.server
+  pub back-called : (r : Result Server Refusal) → Answered (take_back.Post κs (s.server, tt)) r
+      → (next s takes_move_back).server ≡ or_same s.server r
   unfolding next served
-  back-called r (_, e) = ap (λ (a : ServerAnswer). a.server) (sym e)
+  back-called r (_, e) = ap (λ (a : Result Server Refusal). or_same s.server a) (sym e)
 
-  pub sends-called : (n : ℕ) (r : MessageAnswer) → Answered (message.Post κs (s.server, (n, tt))) r
+  pub sends-called : (n : ℕ) (r : Result Message Refusal) → Answered (message.Post κs (s.server, (n, tt))) r
       → (next s (sends_move n)).messages ≡ with_sent r s.messages
   unfolding next
-  sends-called n r (_, e) = ap (λ (a : MessageAnswer). with_sent a s.messages) (sym e)
+  sends-called n r (_, e) = ap (λ (a : Result Message Refusal). with_sent a s.messages) (sym e)
 
   -- `Client::take` of the k-th message on its way: the client after it, and its answer, on its way
   pub takes-called : (k g : ℕ) (m : Message) (ms : List Message) (r : Taken) → drop k s.messages ≡ m ∷ ms
@@ -95,11 +95,11 @@ holds-all-called κs g es ds (_, e) still = all_held g es ds (sym e) still
 
 -- `take_held` at a client whose list is lent: it answers and leaves what the client by value does
 pub held-called : (κs : Lfts 1) (c : Client) (held : MutBor (List ℕ)) (count : ℕ) (m : Message) → length c.moves.codes ≡ 225
-    → 225 ≤ length held.now → Keeps held.now count c → (r : CountAnswer)
+    → 225 ≤ length held.now → Keeps held.now count c → (r : Result ℕ Refusal)
     → Gave (take-held.Post κs (c.game, (held, (count, (m, tt))))) (λ s. s.1.0) r (λ left.
-    (refusal_by c m ≡ 0 → (r ≡ Is (count + 1)) × Keeps left (count + 1) (takes c m).client)
-    × ((refusal_by c m ≡ 0 → ⊥) → (r ≡ Refused (refusal_by c m)) × (left ≡ held.now)))
-unfolding count_answer
+    (refusal_by c m ≡ 0 → (r ≡ Ok (count + 1)) × Keeps left (count + 1) (takes c m).client)
+    × ((refusal_by c m ≡ 0 → ⊥) → (r ≡ Err (refusal_named (refusal_by c m))) × (left ≡ held.now)))
+unfolding answer
 held-called κs c held count m whole long keeps r s (e, o) =
     let same = same-refusal held.now count c m long keeps in (
       λ z. (
@@ -107,7 +107,7 @@ held-called κs c held count m whole long keeps r s (e, o) =
         rw o (same_taken held.now count c m long keeps whole z),
       ),
       λ d. (
-        e ∙ rw (ne_eqb (held_refusal c.game (length held.now) count m) 0 (λ z. d (sym same ∙ z))) (ap Refused same),
+        e ∙ rw (ne_eqb (held_refusal c.game (length held.now) count m) 0 (λ z. d (sym same ∙ z))) (ap (λ (n : ℕ). Err (refusal_named n)) same),
         o ∙ (same-refused held.now count c m long keeps d).0,
       ),
     )

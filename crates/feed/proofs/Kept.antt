@@ -10,18 +10,18 @@ use lib.Dec.{T, eqb, leb, ltb, leb→le}
 use lib.ListN.{length, get_or, take, drop, length-take, length-append, length-replicate, get_or-append}
 use lib.Seq.{take-suc, take-append-le, get_or-take, get_or-append_seam}
 use borrow.Author.Tests.{eq-eqb, ne_eqb, eqb-true, eqb-false, leb-true, leb-false, ltb-true, ltb-false}
-use Rattle.rules.specs.Refusals.{not_next}
+use Rattle.rules.specs.Refusals.{not_next, unless}
+use Rattle.rules.specs.Answers.{answer}
 use Rattle.rules.proofs.Logic.{decide, and_left, and_right, true-T}
 use Rattle.lent.specs.Lists.{zeros}
 use Rattle.feed.specs.declared.message.Message.{Message}
 use Rattle.feed.specs.declared.message.Answer.{Answer}
 use Rattle.feed.specs.declared.client.Client.{Client}
 use Rattle.feed.specs.declared.server.Server.{Server}
-use Rattle.feed.specs.declared.server.MessageAnswer.TheVariants.{Is, Refused}
 use Rattle.feed.specs.Feed.{list_of, size_of, no_moves, grown, shrunk, add_refusal, new_client, answer_of, refusal_by, takes, new_server}
 use Rattle.feed.specs.Feed.{adds_to, last_game, takes_back, message_of, has_move, message_answer}
 use Rattle.feed.specs.Runs.{State, begun, Event, adds_move, takes_move_back, sends_move, loses_message, repeats_message, message_arrives, asks_client, loses_answer, repeats_answer, hears_answer}
-use Rattle.feed.specs.Runs.{without, twice, at, with_line, served, with_sent, delivered, heard_by, arrives, heard, next}
+use Rattle.feed.specs.Runs.{without, twice, at, with_line, served, with_sent, delivered, heard_by, arrives, heard, or_same, next}
 use Rattle.feed.specs.Runs.{held_in, FirstPart}
 use Rattle.feed.proofs.Lists.{list-none, list-grown, codes-grown, list-shrunk}
 use Rattle.feed.proofs.Taking.{take_none, add_none, refused-changes-nothing, taken-grows, takes-size}
@@ -170,11 +170,11 @@ module _ (s : State) (n : ℕ) (G : Good s) where
       }
 
   said-sent : Each (Said s.server.game s.lists) (with_sent (message_answer s.server n) s.messages)
-  unfolding message_answer
+  unfolding message_answer answer unless
   said-sent = go (has_move s.server n) refl
     where
       go : (b : Bool) → has_move s.server n ≡ b
-          → Each (Said s.server.game s.lists) (with_sent (cond b (Is (message_of s.server n)) (Refused not_next)) s.messages)
+          → Each (Said s.server.game s.lists) (with_sent (answer (unless b not_next) (message_of s.server n)) s.messages)
       go true e = (said-move (true-T e), G.said)
       go false e = G.said
 
@@ -369,13 +369,13 @@ points-more l code p h i k = go (decide (ltb i (length l)))
         let b : i ≡ length l = omega (arith, ltb-false i (length l) e, length-append l (code ∷ [])) in
         rw (b, get_or-append_seam l code [] 0) h
 
-adds-good : (s : State) (code : ℕ) → Good s → Good (served s (adds_to s.server code).server)
+adds-good : (s : State) (code : ℕ) → Good s → Good (served s (or_same s.server (adds_to s.server code)))
 adds-good s code G = go (decide (eqb refused 0))
   where
     refused : ℕ
     refused = add_refusal (size_of s.server.moves) code
 
-    added-good : refused ≡ 0 → Good (served s (adds_to s.server code).server)
+    added-good : refused ≡ 0 → Good (served s (or_same s.server (adds_to s.server code)))
     added-good z =
         let l = s.server.moves in
         let n = add_none (size_of l) code z in
@@ -386,7 +386,7 @@ adds-good s code G = go (decide (eqb refused 0))
         (subst Points (sym e) (points-more (list_of l) code (now-points s G) n.0))
         (omega arith) (λ h k. same-grew s v (code ∷ []) G refl e h) G.heard)
 
-    go : (eqb refused 0 ≡ true) ⊎ (eqb refused 0 ≡ false) → Good (served s (adds_to s.server code).server)
+    go : (eqb refused 0 ≡ true) ⊎ (eqb refused 0 ≡ false) → Good (served s (or_same s.server (adds_to s.server code)))
     go (inl e) = added-good (eqb-true refused 0 e)
     go (inr e) =
         subst (λ (w : Server). Good (served s w)) (sym (add-refused s.server code (eqb-false refused 0 e))) (same_good s G)
@@ -400,11 +400,11 @@ points-fewer l n p i k =
 other-grew : (g : ℕ) (x : List ℕ) (f : ℕ → List ℕ) (h : ℕ) → (h ≡ g → ⊥) → Grew (f h) (at g x f h)
 other-grew g x f h d = ([], rw (ne_eqb h g d) (sym (append-nil (f h))))
 
-back-good : (s : State) → Good s → Good (served s (takes_back s.server).server)
+back-good : (s : State) → Good s → Good (served s (or_same s.server (takes_back s.server)))
 unfolding shrunk
 back-good s G = go (decide (eqb s.server.game last_game))
   where
-    opened-good : (s.server.game ≡ last_game → ⊥) → Good (served s (takes_back s.server).server)
+    opened-good : (s.server.game ≡ last_game → ⊥) → Good (served s (or_same s.server (takes_back s.server)))
     opened-good d =
         let l = s.server.moves in
         let v : Server = record { game = s.server.game + 1; moves = shrunk l; heard = 0 } in
@@ -415,7 +415,7 @@ back-good s G = go (decide (eqb s.server.game last_game))
         (omega arith)
         (λ h k. other-grew (s.server.game + 1) (list_of (shrunk l)) s.lists h (λ e. omega arith)) (omega arith))
 
-    go : (eqb s.server.game last_game ≡ true) ⊎ (eqb s.server.game last_game ≡ false) → Good (served s (takes_back s.server).server)
+    go : (eqb s.server.game last_game ≡ true) ⊎ (eqb s.server.game last_game ≡ false) → Good (served s (or_same s.server (takes_back s.server)))
     go (inl e) =
         subst (λ (w : Server). Good (served s w)) (sym (back-refused s.server (eqb-true s.server.game last_game e))) (same_good s G)
     go (inr e) = opened-good (eqb-false s.server.game last_game e)

@@ -11,6 +11,8 @@ use lib.ListN.{length, get_or, take, drop}
 use lib.Seq.{take_all}
 use borrow.Author.Tests.{eqb-true, eqb-false, eq-eqb, ne_eqb}
 use Rattle.rules.specs.Refusals.{no_point, many_moves, unless}
+use Rattle.std.specs.Prelude.{Ok, Err}
+use Rattle.rules.specs.Answers.{answer, refusal_named}
 use Rattle.rules.specs.Forbidden.{strict_of, plain_of, forbidden_list}
 use Rattle.rules.specs.Tools.{all_below}
 use Rattle.rules.proofs.Logic.{decide, all-intro}
@@ -22,9 +24,9 @@ use Rattle.feed.specs.declared.message.Answer.{Answer}
 use Rattle.feed.specs.declared.client.Client.{Client}
 use Rattle.feed.specs.declared.server.Server.{Server}
 use Rattle.feed.specs.Compare.{begins}
-use Rattle.feed.specs.Feed.{list_of, size_of, grown, shrunk, add_refusal, last_game, answer_of, message_of, refusal_by, takes, adds_to, takes_back, hears, holds_all}
+use Rattle.feed.specs.Feed.{list_of, size_of, grown, shrunk, add_refusal, back_refusal, answer_of, message_of, refusal_by, takes, adds_to, takes_back, hears, holds_all}
 use Rattle.feed.specs.Runs.{State, begun, Event, adds_move, takes_move_back, sends_move, loses_message, repeats_message, message_arrives, asks_client, loses_answer, repeats_answer, hears_answer}
-use Rattle.feed.specs.Runs.{served, delivered, heard_by, arrives, heard, next, run}
+use Rattle.feed.specs.Runs.{served, delivered, heard_by, arrives, heard, or_same, next, run}
 use Rattle.feed.specs.Runs.{held_in, FirstPart, Agree, AgreeAt, quiet, Quiet, messages_from, missing_at, Brings, Receives}
 use Rattle.feed.proofs.Begins.{part-begins}
 use Rattle.feed.proofs.Lists.{size-least, size-grown}
@@ -100,8 +102,8 @@ module _ (g : ℕ) (es : List Event) where
 -- the list of a game that the server has left, or not yet opened, stands as it is
 pub left-stands : (s : State) (e : Event) (h : ℕ) → (h ≡ (next s e).server.game → ⊥) → (next s e).lists h ≡ s.lists h
 unfolding next served delivered heard_by
-left-stands s (adds_move code) h d = rw (ne_eqb h (adds_to s.server code).server.game d)
-left-stands s takes_move_back h d = rw (ne_eqb h (takes_back s.server).server.game d)
+left-stands s (adds_move code) h d = rw (ne_eqb h (or_same s.server (adds_to s.server code)).game d)
+left-stands s takes_move_back h d = rw (ne_eqb h (or_same s.server (takes_back s.server)).game d)
 left-stands s (sends_move n) h d = refl
 left-stands s (loses_message k) h d = refl
 left-stands s (repeats_message k) h d = refl
@@ -366,17 +368,21 @@ game-either : (b : Bool) (v w : Server) → v.game ≤ w.game → v.game ≤ (co
 game-either true v w h = h
 game-either false v w h = omega arith
 
+game-or-same : (refused : ℕ) (v w : Server) → v.game ≤ w.game → v.game ≤ (or_same v (answer refused w)).game
+unfolding answer
+game-or-same refused v w h = go (eqb refused 0)
+  where
+    go : (b : Bool) → v.game ≤ (or_same v (cond b (Ok w) (Err (refusal_named refused)))).game
+    go true = h
+    go false = omega arith
+
 pub number-grows : (s : State) (e : Event) → s.server.game ≤ (next s e).server.game
 unfolding next served adds_to takes_back heard_by hears delivered
 number-grows s (adds_move code) =
-    game-either (eqb (add_refusal (size_of s.server.moves) code) 0) s.server
+    game-or-same (add_refusal (size_of s.server.moves) code) s.server
     (record { game = s.server.game; moves = grown s.server.moves code; heard = s.server.heard }) (omega arith)
-number-grows s takes_move_back = go (eqb s.server.game last_game)
-  where
-    go : (b : Bool)
-        → s.server.game ≤ (cond b s.server (record { game = s.server.game + 1; moves = shrunk s.server.moves; heard = 0 })).game
-    go true = omega arith
-    go false = omega arith
+number-grows s takes_move_back =
+    game-or-same (back_refusal s.server) s.server (record { game = s.server.game + 1; moves = shrunk s.server.moves; heard = 0 }) (omega arith)
 number-grows s (sends_move n) = omega arith
 number-grows s (loses_message k) = omega arith
 number-grows s (repeats_message k) = omega arith

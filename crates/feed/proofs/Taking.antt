@@ -9,6 +9,7 @@ use lib.Dec.{eqb, leb, ltb, eqb→eq, ltb→lt}
 use lib.ListN.{length}
 use borrow.Author.Tests.{eq-eqb, ne_eqb, eqb-true, eqb-false, lt-ltb, le-leb, lt-leb, leb-true, leb-false}
 use Rattle.rules.specs.Refusals.{no_point, no_room, many_moves, first, unless, code_refusal, foreign_game, not_next}
+use Rattle.rules.specs.Answers.{answer}
 use Rattle.rules.proofs.Refusals.{first-none, none_first, passed, pass}
 use Rattle.rules.proofs.Logic.{decide, true-T}
 use Rattle.feed.specs.declared.message.Message.{Message}
@@ -16,7 +17,8 @@ use Rattle.feed.specs.declared.message.Answer.{Answer}
 use Rattle.feed.specs.declared.client.Client.{Client}
 use Rattle.feed.specs.declared.server.Server.{Server}
 use Rattle.feed.specs.Feed.{size_of, grown, shrunk, add_refusal, take_refusal, refusal_by, after, takes, answer_of}
-use Rattle.feed.specs.Feed.{held_refusal, adds_to, last_game, takes_back, hears}
+use Rattle.feed.specs.Feed.{held_refusal, adds_to, last_game, back_refusal, takes_back, hears}
+use Rattle.feed.specs.Runs.{or_same}
 use Rattle.feed.proofs.Lists.{size-grown}
 
 -- ---- refusals
@@ -121,21 +123,21 @@ takes-size c m whole = go (decide (eqb (refusal_by c m) 0))
 -- ---- adding and taking back
 
 pub add-taken : (v : Server) (code : ℕ) → add_refusal (size_of v.moves) code ≡ 0
-    → (adds_to v code).server ≡ record { game = v.game; moves = grown v.moves code; heard = v.heard }
-unfolding adds_to
+    → or_same v (adds_to v code) ≡ record { game = v.game; moves = grown v.moves code; heard = v.heard }
+unfolding adds_to answer
 add-taken v code e = rw (eq-eqb (add_refusal (size_of v.moves) code) 0 e)
 
-pub add-refused : (v : Server) (code : ℕ) → (add_refusal (size_of v.moves) code ≡ 0 → ⊥) → (adds_to v code).server ≡ v
-unfolding adds_to
+pub add-refused : (v : Server) (code : ℕ) → (add_refusal (size_of v.moves) code ≡ 0 → ⊥) → or_same v (adds_to v code) ≡ v
+unfolding adds_to answer
 add-refused v code h = rw (ne_eqb (add_refusal (size_of v.moves) code) 0 h)
 
 pub back-taken : (v : Server) → (v.game ≡ last_game → ⊥)
-    → (takes_back v).server ≡ record { game = v.game + 1; moves = shrunk v.moves; heard = 0 }
-unfolding takes_back
+    → or_same v (takes_back v) ≡ record { game = v.game + 1; moves = shrunk v.moves; heard = 0 }
+unfolding takes_back back_refusal answer
 back-taken v h = rw (ne_eqb v.game last_game h)
 
-pub back-refused : (v : Server) → v.game ≡ last_game → (takes_back v).server ≡ v
-unfolding takes_back
+pub back-refused : (v : Server) → v.game ≡ last_game → or_same v (takes_back v) ≡ v
+unfolding takes_back back_refusal answer
 back-refused v e = rw (eq-eqb v.game last_game e)
 
 -- ---- (5) hearing: for its own game number only, and never less than before

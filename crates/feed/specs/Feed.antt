@@ -1,6 +1,8 @@
 -- The client and the server of the move feed, each function by what it gives. The quoted sentences are document 02's, No. 8.
-use Rattle.std.specs.Prelude.{Bool, ◌&&◌, cond, List, ℕ, ◌+◌, ◌-◌, max, eqb, leb, ltb, length, get_or, take, set}
+use Rattle.std.specs.Prelude.{Bool, ◌&&◌, cond, List, ℕ, ◌+◌, ◌-◌, max, eqb, leb, ltb, length, get_or, take, set, Result}
 use Rattle.rules.specs.Refusals.{no_room, many_moves, foreign_game, not_next, first, unless, code_refusal}
+use Rattle.rules.specs.Answers.{answer, checked}
+use Rattle.rules.specs.declared.refusal.Refusal.{Refusal}
 use Rattle.lent.specs.Lists.{zeros}
 use Rattle.feed.specs.declared.message.Message.{Message}
 use Rattle.feed.specs.declared.message.Answer.{Answer}
@@ -8,9 +10,6 @@ use Rattle.feed.specs.declared.moves.Moves.{Moves}
 use Rattle.feed.specs.declared.client.Client.{Client}
 use Rattle.feed.specs.declared.client.Taken.{Taken}
 use Rattle.feed.specs.declared.server.Server.{Server}
-use Rattle.feed.specs.declared.server.ServerAnswer.{ServerAnswer}
-use Rattle.feed.specs.declared.server.MessageAnswer.{MessageAnswer}
-use Rattle.feed.specs.declared.server.MessageAnswer.TheVariants.{Is, Refused}
 
 -- ---- lists of moves
 
@@ -54,15 +53,19 @@ new_client game = record { game = game; moves = no_moves }
 unfoldable pub answer_of : Client → Answer
 answer_of c = record { game = c.game; count = size_of c.moves }
 
+-- the client with one move more
+abbrev pub grown_client : Client → ℕ → Client
+grown_client c code = record { game = c.game; moves = grown c.moves code }
+
 abbrev pub refusal_by : Client → Message → ℕ
 refusal_by c m = take_refusal c.game (size_of c.moves) m
 
 -- "The client takes only the next move of its own game"; of the refusals "none changes the client"
 unfoldable pub after : Client → Message → Client
-after c m = cond (eqb (refusal_by c m) 0) (record { game = c.game; moves = grown c.moves m.code }) c
+after c m = cond (eqb (refusal_by c m) 0) (grown_client c m.code) c
 
 unfoldable pub takes : Client → Message → Taken
-takes c m = record { refused = refusal_by c m; client = after c m; answer = answer_of (after c m) }
+takes c m = record { taken = checked (refusal_by c m); client = after c m; answer = answer_of (after c m) }
 
 -- the same of a client that holds the first `count` bytes of a lent list, which has room for `room` bytes: 13 where there is none behind them
 unfoldable pub held_refusal : ℕ → ℕ → ℕ → Message → ℕ
@@ -77,24 +80,21 @@ held_after game held count m = cond (eqb (held_refusal game (length held) count 
 unfoldable pub new_server : ℕ → Server
 new_server game = record { game = game; moves = no_moves; heard = 0 }
 
--- a move is added; where it is refused, 8 or 14, nothing changes
-unfoldable pub adds_to : Server → ℕ → ServerAnswer
-adds_to v code = record {
-  refused = add_refusal (size_of v.moves) code;
-  server = cond (eqb (add_refusal (size_of v.moves) code) 0)
-      (record { game = v.game; moves = grown v.moves code; heard = v.heard }) v;
-}
+-- the server with a move added, or 8 or 14
+unfoldable pub adds_to : Server → ℕ → Result Server Refusal
+adds_to v code =
+    answer (add_refusal (size_of v.moves) code) (record { game = v.game; moves = grown v.moves code; heard = v.heard })
 
 -- "A takeback opens a new game number, never used before": one more than the present one, of which nothing is heard yet. Behind the last number
 -- there is none, and it is refused
 abbrev pub last_game : ℕ
 last_game = 4294967295
 
-unfoldable pub takes_back : Server → ServerAnswer
-takes_back v = record {
-  refused = cond (eqb v.game last_game) foreign_game 0;
-  server = cond (eqb v.game last_game) v (record { game = v.game + 1; moves = shrunk v.moves; heard = 0 });
-}
+unfoldable pub back_refusal : Server → ℕ
+back_refusal v = cond (eqb v.game last_game) foreign_game 0
+
+unfoldable pub takes_back : Server → Result Server Refusal
+takes_back v = answer (back_refusal v) (record { game = v.game + 1; moves = shrunk v.moves; heard = 0 })
 
 -- "Each carries a game number, a move number from 1 and a code."
 abbrev pub message_of : Server → ℕ → Message
@@ -104,8 +104,8 @@ message_of v n = record { game = v.game; number = n; code = get_or (list_of v.mo
 unfoldable pub has_move : Server → ℕ → Bool
 has_move v n = leb 1 n && leb n (size_of v.moves)
 
-unfoldable pub message_answer : Server → ℕ → MessageAnswer
-message_answer v n = cond (has_move v n) (Is (message_of v n)) (Refused not_next)
+unfoldable pub message_answer : Server → ℕ → Result Message Refusal
+message_answer v n = answer (unless (has_move v n) not_next) (message_of v n)
 
 -- an answer is heard for the server's own game number only, and what was heard never shrinks there. One that tells more moves than the game has is
 -- no client's of this game

@@ -1,14 +1,13 @@
 -- A run of the feed: the server of one table, the clients of its games, and the line between them. Each step is one of the crate's functions,
 -- by the definition that its contract cites. The quoted sentences are document 02's, No. 8.
-use Rattle.std.specs.Prelude.{◌≡◌, ◌⊎◌, Bool, true, false, cond, List, [], ◌∷◌, ℕ, zero, suc, ◌-◌, T, eqb, length, take, drop}
+use Rattle.std.specs.Prelude.{◌≡◌, ◌⊎◌, Bool, true, false, cond, List, [], ◌∷◌, ℕ, zero, suc, ◌-◌, T, eqb, length, take, drop, Result, Ok, Err}
+use Rattle.rules.specs.declared.refusal.Refusal.{Refusal}
 use Rattle.rules.specs.Forbidden.{strict_of, plain_of, forbidden_list}
 use Rattle.cells.specs.Cells.{moves_cells}
 use Rattle.feed.specs.declared.message.Message.{Message}
 use Rattle.feed.specs.declared.message.Answer.{Answer}
 use Rattle.feed.specs.declared.client.Client.{Client}
 use Rattle.feed.specs.declared.server.Server.{Server}
-use Rattle.feed.specs.declared.server.MessageAnswer.{MessageAnswer}
-use Rattle.feed.specs.declared.server.MessageAnswer.TheVariants.{Is, Refused}
 use Rattle.feed.specs.Feed.{list_of, size_of, new_client, answer_of, takes, new_server, adds_to, takes_back, message_of, message_answer, hears}
 
 -- ---- a moment of a run
@@ -77,9 +76,14 @@ served s v = record {
 }
 
 -- one message more, if the server has it
-abbrev pub with_sent : MessageAnswer → List Message → List Message
-with_sent (Is m) ms = m ∷ ms
-with_sent (Refused n) ms = ms
+abbrev pub with_sent : Result Message Refusal → List Message → List Message
+with_sent (Ok m) ms = m ∷ ms
+with_sent (Err n) ms = ms
+
+-- the server that its caller goes on with: the new one, or, where it is refused, the one that it has
+abbrev pub or_same : Server → Result Server Refusal → Server
+or_same v (Ok w) = w
+or_same v (Err n) = v
 
 -- message m, the k-th on its way, arrives at the client of game g: it is taken or refused, and answered
 unfoldable pub delivered : State → ℕ → ℕ → Message → State
@@ -112,8 +116,8 @@ heard s k (a ∷ told) = heard_by s k a
 
 -- the moment after an event
 unfoldable pub next : State → Event → State
-next s (adds_move code) = served s (adds_to s.server code).server
-next s takes_move_back = served s (takes_back s.server).server
+next s (adds_move code) = served s (or_same s.server (adds_to s.server code))
+next s takes_move_back = served s (or_same s.server (takes_back s.server))
 next s (sends_move n) = with_line s (with_sent (message_answer s.server n) s.messages) s.answers
 next s (loses_message k) = with_line s (without k s.messages) s.answers
 next s (repeats_message k) = with_line s (twice k s.messages) s.answers

@@ -14,4 +14,4 @@ pub use compare::{longer, missing, missing_refusal};
 pub use held::take_held;
 pub use message::{Answer, Message};
 pub use moves::Moves;
-pub use server::{MessageAnswer, Server, ServerAnswer};
+pub use server::Server;

@@ -4,30 +4,19 @@ ghost use Rattle.feed.specs.Feed.{new_server, adds_to, takes_back, message_answe
 
 use super::message::{Answer, Message, add_refusal};
 use super::moves::Moves;
+use rules::{Refusal, unless};
 
 // Its game number, the moves of that game, and how many of them the client of that game is known to hold. The next game number is always one more.
-#[derive(Clone, Copy)]
+#[derive(Clone, Copy, Debug, PartialEq, Eq)]
 pub struct Server {
     pub game: u32,
     pub moves: Moves,
     pub heard: u16,
 }
 
-// 0 or the refusal, and the server after it.
-#[derive(Clone, Copy)]
-pub struct ServerAnswer {
-    pub refused: u8,
-    pub server: Server,
-}
-
-#[derive(Clone, Copy)]
-pub enum MessageAnswer {
-    Is(Message),
-    Refused(u8),
-}
-
 impl Server {
     // A server of a table where nothing is played.
+    #[tactic(auto, unfolding(crate::specs::Feed::new_server))]
     pub fn new(game: u32) -> Server
         ensures { result ≡ new_server game }
     {
@@ -38,92 +27,66 @@ impl Server {
         }
     }
 
-    // A move is added: 8, then 14.
-    pub fn add(self, code: u8) -> ServerAnswer
+    // The server with a move added: NoPoint, then ManyMoves, and its caller's server is as it was.
+    #[tactic(auto, unfolding(rules::specs::Answers::answer, crate::specs::Feed::adds_to))]
+    pub fn add(self, code: u8) -> Result<Server, Refusal>
         ensures { result ≡ adds_to self code }
     {
-        let old = self.moves;
-        let refused = add_refusal(old.size(), code);
-        if refused != 0 {
-            return ServerAnswer {
-                refused,
-                server: self,
-            };
-        }
-        let server = Server {
+        add_refusal(self.moves.size(), code)?;
+        Ok(Server {
             game: self.game,
-            moves: old.grown(code),
+            moves: self.moves.grown(code),
             heard: self.heard,
-        };
-        ServerAnswer { refused, server }
+        })
     }
 
-    // The last move is taken back, and a new game number opened: 17 where there is none left.
-    pub fn take_back(self) -> ServerAnswer
+    // The server with its last move taken back, and a new game number opened: ForeignGame where there is none left.
+    #[tactic(auto, unfolding(rules::specs::Answers::answer, rules::specs::Refusals::unless, crate::specs::Feed::takes_back, crate::specs::Feed::back_refusal))]
+    pub fn take_back(self) -> Result<Server, Refusal>
         ensures { result ≡ takes_back self }
     {
-        let game = self.game;
-        if game == 4294967295 {
-            return ServerAnswer {
-                refused: 17,
-                server: self,
-            };
-        }
-        let old = self.moves;
-        let server = Server {
-            game: game + 1,
-            moves: old.shrunk(),
+        unless(self.game != u32::MAX, Refusal::ForeignGame)?;
+        Ok(Server {
+            game: self.game + 1,
+            moves: self.moves.shrunk(),
             heard: 0,
-        };
-        ServerAnswer { refused: 0, server }
+        })
     }
 
-    // The message of move n, from 1: 18 where the game has no such move.
-    pub fn message(self, number: u16) -> MessageAnswer
+    // The message of move n, from 1: NotNext where the game has no such move.
+    #[tactic(auto, unfolding(rules::specs::Answers::answer, rules::specs::Refusals::unless, crate::specs::Feed::message_answer, crate::specs::Feed::has_move))]
+    pub fn message(self, number: u16) -> Result<Message, Refusal>
         ensures { result ≡ message_answer self number }
     {
-        let moves = self.moves;
-        if number == 0 {
-            return MessageAnswer::Refused(18);
-        }
-        if moves.size() < number {
-            return MessageAnswer::Refused(18);
-        }
-        let message = Message {
+        unless(1 <= number && number <= self.moves.size(), Refusal::NotNext)?;
+        Ok(Message {
             game: self.game,
             number,
-            code: moves.at(number - 1),
-        };
-        MessageAnswer::Is(message)
+            code: self.moves.at(number - 1),
+        })
     }
 
     // An answer is heard: for the server's own game number only, and what was heard before is not lost. An answer that tells more moves
     // than the game has is no client's of this game.
+    #[tactic(auto, unfolding(crate::specs::Feed::hears))]
     pub fn hear(self, answer: Answer) -> Server
         ensures { result ≡ hears self answer }
     {
-        let moves = self.moves;
-        if answer.game != self.game {
-            return self;
-        }
-        if moves.size() < answer.count {
-            return self;
-        }
-        if answer.count <= self.heard {
+        if answer.game != self.game || self.moves.size() < answer.count {
             return self;
         }
         Server {
             game: self.game,
-            moves,
-            heard: answer.count,
+            moves: self.moves,
+            heard: self.heard.max(answer.count),
         }
     }
 
     // Whether the client of its game is known to hold all moves.
+    #[tactic(auto, unfolding(crate::specs::Feed::holds_all))]
     pub fn holds_all(self) -> bool
         ensures { result ≡ holds_all self }
     {
-        let moves = self.moves;
-        self.heard == moves.size()
+        self.heard == self.moves.size()
     }
 }

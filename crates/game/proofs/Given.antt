@@ -1,24 +1,25 @@
 -- The board of an answer: sound, and with the report's cells. Assumes nothing.
-use mathlib.Core.Path.{◌≡◌, sym}
+use mathlib.Core.Path.{◌≡◌, refl, ap, ◌∙◌}
 use mathlib.Core.Bool.{Bool, true, false, cond}
-use mathlib.Core.Logic.{◌⊎◌, inl, inr}
 use mathlib.Core.List.{List, [], ◌∷◌}
 use Prim.Native.Nat.{ℕ, suc}
 use lib.Dec.{eqb}
-use borrow.Author.Tests.{eqb-true}
+use Rattle.std.specs.Prelude.{Result, Ok, Err}
+use Rattle.rules.specs.Answers.{answer, refusal_named}
+use Rattle.rules.specs.declared.refusal.Refusal.{Refusal}
+use Rattle.rules.proofs.Refusals.{answered}
 use Rattle.rules.specs.Numbers.{opponent_of}
 use Rattle.rules.specs.Grid.{put}
 use Rattle.rules.specs.Fives.{makes_five}
 use Rattle.rules.specs.declared.Player.{Player}
 use Rattle.rules.specs.declared.Player.TheVariants.{Black}
-use Rattle.rules.proofs.Logic.{decide}
 use Rattle.lent.specs.Lists.{zeros}
 use Rattle.cells.specs.Cells.{Cells}
 use Rattle.cells.proofs.Given.{cells-zeros, put-ok}
-use Rattle.board.specs.Boards.{cells, board_of, board_refusal}
+use Rattle.board.specs.Boards.{cells, board_refusal}
 use Rattle.board.proofs.Given.{board-sound, board-cells}
 use Rattle.game.specs.Game.{is_fault, reason_of, won_after, Report, fault_at, report_from, report_of}
-use Rattle.game.specs.Answers.{report_with, refused_report, game_report}
+use Rattle.game.specs.Answers.{reported, game_report}
 use Rattle.game.specs.declared.report.Winner.{Winner}
 use Rattle.game.specs.declared.report.Winner.TheVariants as winner
 use Rattle.game.specs.declared.report.GameReport.{GameReport}
@@ -39,31 +40,27 @@ pub report-ok : (moves : List ℕ) → Cells (report_of moves).cells
 unfolding report_of
 report-ok moves = from-ok 1 Black winner.None (zeros 225) moves cells-zeros
 
--- every answer's board is sound
-pub answer-sound : (refused : ℕ) (moves : List ℕ) → board_refusal (game_report refused (report_of moves)).board ≡ 0
-unfolding game_report refused_report
-answer-sound refused moves = go (eqb refused 0)
-  where
-    go : (b : Bool)
-        → board_refusal (cond {A = GameReport} b
-        (report_with (report_of moves).number (report_of moves).reason (report_of moves).winner (board_of (report_of moves).cells))
-        (refused_report refused)).board ≡ 0
-    go true = board-sound (report_of moves).cells (report-ok moves)
-    go false = board-sound (zeros 225) cells-zeros
+module _ (refused : ℕ) (moves : List ℕ) {r : GameReport} (e : game_report refused (report_of moves) ≡ Ok r) where
+  given : r ≡ reported (report_of moves)
+  unfolding game_report
+  given = (answered refused (reported (report_of moves)) refl e).1
 
--- and where nothing is refused it has the report's cells
-pub answer-cells : (moves : List ℕ) → cells (game_report 0 (report_of moves)).board ≡ (report_of moves).cells
-unfolding game_report
-answer-cells moves = board-cells (report_of moves).cells (report-ok moves)
+  -- every answer's board is sound
+  pub answer-sound : board_refusal r.board ≡ 0
+  unfolding reported
+  answer-sound = ap (λ (x : GameReport). board_refusal x.board) given ∙ board-sound (report_of moves).cells (report-ok moves)
+
+  -- and it has the report's cells
+  pub answer-cells : cells r.board ≡ (report_of moves).cells
+  unfolding reported
+  answer-cells = ap (λ (x : GameReport). cells x.board) given ∙ board-cells (report_of moves).cells (report-ok moves)
 
 -- an answer says what was refused
-pub answer-refused : (refused : ℕ) (report : Report) → (game_report refused report).refused ≡ refused
-unfolding game_report refused_report
-answer-refused refused report = go (decide (eqb refused 0))
+pub answer-refused : (refused : ℕ) (report : Report) {e : Refusal} → game_report refused report ≡ Err e → e ≡ refusal_named refused
+unfolding game_report answer
+answer-refused refused report {e} was = go (eqb refused 0) was
   where
-    go : (eqb refused 0 ≡ true) ⊎ (eqb refused 0 ≡ false)
-        → (cond {A = GameReport} (eqb refused 0)
-        (report_with report.number report.reason report.winner (board_of report.cells)) (refused_report refused)).refused
-        ≡ refused
-    go (inl t) = rw t (sym (eqb-true refused 0 t))
-    go (inr t) = rw t
+    go : (b : Bool) → ◌≡◌ {A = Result GameReport Refusal} (cond b (Ok (reported report)) (Err (refusal_named refused))) (Err e)
+        → e ≡ refusal_named refused
+    go true q = cc
+    go false q = cc

@@ -5,22 +5,21 @@ use mathlib.Core.Logic.{◌⊎◌, inl, inr}
 use mathlib.Core.List.{List, ◌∷◌}
 use Prim.Native.Nat.{ℕ, suc, ◌+◌, ◌≤◌, ◌<◌}
 use native.Mathlib.Numerals.{add-one}
-use native.Mathlib.Omega.{arith}
 use lib.Dec.{eqb, ltb}
 use lib.ListN.{length, get_or, drop, drop_of_length-le}
 use lib.Seq.{drop-cons}
 use borrow.Author.Tests.{eqb-true, lt-ltb}
 use Rattle.rules.specs.Numbers.{colour_no, is_black, is_none, opponent_of}
 use Rattle.rules.specs.Refusals.{code_refusal}
-use Rattle.rules.specs.Answers.{verdict_answer}
+use Rattle.rules.specs.Answers.{answer}
 use Rattle.rules.specs.Grid.{is_empty, put, rows_through}
 use Rattle.rules.specs.Forbidden.{some_row, is_overline, is_double_four, may_forbid, strict_of}
 use Rattle.rules.specs.Fives.{makes_five}
 use Rattle.rules.specs.declared.Player.{Player}
 use Rattle.rules.specs.declared.Player.TheVariants.{Black, White}
 use Rattle.rules.specs.declared.Verdict.{Verdict}
-use Rattle.rules.specs.declared.answer.VerdictAnswer.{VerdictAnswer}
-use Rattle.rules.specs.declared.answer.VerdictAnswer.TheVariants as verdict
+use Rattle.rules.specs.declared.refusal.Refusal.{Refusal}
+use Rattle.std.specs.Prelude.{Result, Ok, Err}
 use Rattle.rules.specs.declared.RowKind.{RowKind}
 use Rattle.rules.specs.declared.RowKind.TheVariants.{Two, Sword, Four, Overlining}
 use Rattle.rules.proofs.Logic.{no_true, true-T, decide}
@@ -42,7 +41,7 @@ use Rattle.referee.proofs.RowsSeen.{seen-rows, masks-sound}
 use Rattle.board.specs.Boards.{board_from}
 use Rattle.board.proofs.Given.{from-lines}
 use Rattle.game.specs.Game.{is_fault, is_won, is_forbidden, lowest, reason_of, won_after, Report, no_fault, fault_at, report_from, report_of}
-use Rattle.game.specs.Answers.{report_with, game_report}
+use Rattle.game.specs.Answers.{report_with, reported}
 use Rattle.game.specs.declared.report.Reason.{Reason}
 use Rattle.game.specs.declared.report.Reason.TheVariants as reason
 use Rattle.game.specs.declared.report.Winner.{Winner}
@@ -116,18 +115,18 @@ unfolding cells_refusal_at code_refusal
 at-pass cells p ok hp =
     none_first (cells_refusal cells) (code_refusal p) (cells-pass cells ok) (pass (ltb p 225) 8 (true-T (lt-ltb p 225 hp)))
 
-pub asked-lines : (l : List ℕ) (p : ℕ) → p < 225 → {cells : List ℕ} {a : VerdictAnswer} → cells ≡ cells_of l
-    → a ≡ verdict_answer (cells_refusal_at cells p) (strict_of cells p) → a ≡ verdict.Is (strict_of (cells_of l) p)
-unfolding verdict_answer
+pub asked-lines : (l : List ℕ) (p : ℕ) → p < 225 → {cells : List ℕ} {a : Result Verdict Refusal} → cells ≡ cells_of l
+    → a ≡ answer (cells_refusal_at cells p) (strict_of cells p) → a ≡ Ok (strict_of (cells_of l) p)
+unfolding answer
 asked-lines l p hp ec ea = ea ∙ rw (ec, at-pass (cells_of l) p (cells-cells_of l) hp)
 
 -- so its answer is a verdict, and that one
-pub kind-told : {a : VerdictAnswer} {v w : Verdict} {b : Bool} → a ≡ verdict.Is w → a ≡ verdict.Is v → b ≡ is_none v
+pub kind-told : {a : Result Verdict Refusal} {v w : Verdict} {b : Bool} → a ≡ Ok w → a ≡ Ok v → b ≡ is_none v
     → not b ≡ not (is_none w)
 kind-told {a} {v} {w} asked told e = let same : v ≡ w = cc in ap not e ∙ ap (λ (x : Verdict). not (is_none x)) same
 
-pub never-refused : {a : VerdictAnswer} {w : Verdict} {n : ℕ} → a ≡ verdict.Is w → a ≡ verdict.Refused n → ⊥
-never-refused asked told = let z : ◌≡◌ {A = ℕ} 0 1 = cc in omega arith
+pub never-refused : {a : Result Verdict Refusal} {w : Verdict} {e : Refusal} → a ≡ Ok w → a ≡ Err e → ⊥
+never-refused asked told = cc
 
 -- ---- a turn of the reading
 
@@ -190,21 +189,21 @@ module _ (moves l : List ℕ) (i : ℕ) (r : Player) (won : Winner) (s : Sound l
     (whole : report_from (suc i) r won (cells_of l) (drop i moves) ≡ report_of moves) where
   -- the board of the report is that of the lines
   answered : (x : Report) → x.cells ≡ cells_of l → report_of moves ≡ x
-      → report_with x.number x.reason x.winner (board_from l) ≡ game_report 0 (report_of moves)
-  unfolding game_report
+      → report_with x.number x.reason x.winner (board_from l) ≡ reported (report_of moves)
+  unfolding reported
   answered x ec e =
       ap (report_with x.number x.reason x.winner) (from-lines x.cells (sound-lines l s ∙ ap lines_of (sym ec)))
-      ∙ ap (game_report 0) (sym e)
+      ∙ ap reported (sym e)
 
   pub report-fault : {why : Reason} → i < length moves → why ≡ reason_of r won (cells_of l) (get_or moves i 0) → is_fault why ≡ true
-      → report_with (i + 1) why winner.None (board_from l) ≡ game_report 0 (report_of moves)
+      → report_with (i + 1) why winner.None (board_from l) ≡ reported (report_of moves)
   report-fault {why} h ey f =
       ap (λ (n : ℕ). report_with n why winner.None (board_from l)) (add-one i)
       ∙ answered (fault_at (suc i) why (cells_of l)) refl
       (sym whole ∙ read-fault (suc i) r won (cells_of l) moves i h (ap is_fault (sym ey) ∙ f)
       ∙ ap (λ (w : Reason). fault_at (suc i) w (cells_of l)) (sym ey))
 
-  pub report-end : length moves ≤ i → report_with 0 reason.None won (board_from l) ≡ game_report 0 (report_of moves)
+  pub report-end : length moves ≤ i → report_with 0 reason.None won (board_from l) ≡ reported (report_of moves)
   report-end h = answered (no_fault won (cells_of l)) refl (sym whole ∙ read-end (suc i) r won (cells_of l) moves i h)
 
   pub report-more : {m : List ℕ} {r' : Player} {won' : Winner} {five : Bool} → i < length moves → get_or moves i 0 < 225

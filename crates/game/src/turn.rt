@@ -15,7 +15,7 @@ use super::report::{Reason, Winner};
 use grid::{add_by, cell_on, cells_on, stones_by};
 use near::{Glance, black_glance_near, white_four_near};
 use referee::forbidden_strict_of;
-use rules::{Player, VerdictAnswer};
+use rules::Player;
 
 // What is said of a move. Whether it makes a five is told where it has no fault.
 #[derive(Clone, Copy)]
@@ -50,15 +50,14 @@ fn lowest(occupied: bool, forbidden: bool, after: bool) -> Reason
     ensures { result ≡ lowest occupied forbidden after }
 {
     if occupied {
-        return Reason::Occupied;
+        Reason::Occupied
+    } else if forbidden {
+        Reason::Forbidden
+    } else if after {
+        Reason::AfterFive
+    } else {
+        Reason::None
     }
-    if forbidden {
-        return Reason::Forbidden;
-    }
-    if after {
-        return Reason::AfterFive;
-    }
-    Reason::None
 }
 
 // What the player's rows through a point tell: whether one is a Four, and whether some kind may apply. To White nothing is forbidden.
@@ -83,9 +82,7 @@ fn black_glance_by(lines: &[u16; 144], table: &[u16; 900], code: u8) -> Glance
         × (result.may ≡ may_forbid (cells_of lines.now) code) }
 {
     let stones = stones_by(lines, table, code, Player::Black);
-    let own = stones.own;
-    let other = stones.other;
-    black_glance_near(own, other, code)
+    black_glance_near(stones.own, stones.other, code)
 }
 
 // .. White's.
@@ -94,9 +91,7 @@ fn white_four_by(lines: &[u16; 144], table: &[u16; 900], code: u8) -> bool
     ensures { result ≡ some_row (rows_through White Four (cells_of lines.now) code) }
 {
     let stones = stones_by(lines, table, code, Player::White);
-    let own = stones.own;
-    let other = stones.other;
-    white_four_near(own, other, code)
+    white_four_near(stones.own, stones.other, code)
 }
 
 // Whether the strict verdict at a point is a kind, where it may be one: only there is the referee asked.
@@ -104,10 +99,7 @@ fn is_kind_where(may: bool, lines: &[u16; 144], code: u8) -> bool
     requires { code < 225 }
     ensures { result ≡ (may && not (is_none (strict_of (cells_of lines.now) code))) }
 {
-    if may {
-        return is_kind_on(lines, code);
-    }
-    false
+    may && is_kind_on(lines, code)
 }
 
 // Whether the strict verdict at a point is a kind. The cells of any lines are cells, so the question is never refused.
@@ -117,8 +109,8 @@ fn is_kind_on(lines: &[u16; 144], code: u8) -> bool
 {
     let cells = cells_on(lines);
     match forbidden_strict_of(&cells, code) {
-        VerdictAnswer::Is(verdict) => !verdict.is_none(),
-        VerdictAnswer::Refused(_) => false,
+        Ok(verdict) => !verdict.is_none(),
+        Err(_) => false,
     }
 }
 

@@ -1,12 +1,13 @@
 -- The lines of cells that are written one by one, the test that two lists are the same, and that it decides soundness. Assumes nothing.
 use mathlib.Core.Path.{◌≡◌, refl, ap, ap₂, sym, ◌∙◌}
-use mathlib.Core.Bool.{true, false}
+use mathlib.Core.Bool.{Bool, true, false, ◌&&◌}
 use mathlib.Core.Logic.{◌⊎◌, inl, inr}
 use mathlib.Core.List.{List, [], ◌∷◌}
 use Prim.Native.Nat.{ℕ, ◌<◌}
 use native.Mathlib.Omega.{arith}
 use lib.Dec.{T, eqb, eqb→eq}
 use lib.ListN.{length, get_or}
+use lib.Pointwise.{pointwise}
 use lib.Seq.{ext_get_or}
 use borrow.Author.Tests.{eq-eqb, lt-ltb}
 use Rattle.rules.proofs.Logic.{true-T, decide, and_left, and_right}
@@ -40,15 +41,13 @@ same-eq (x ∷ l) [] t = absurd t
 same-eq (x ∷ l) (y ∷ m) t =
     ap₂ {C = List ℕ} (λ a b. a ∷ b) (eqb→eq x y (and_left (eqb x y) (same_list l m) t)) (same-eq l m (and_right (eqb x y) (same_list l m) t))
 
-pub same-differ : (l m : List ℕ) (i : ℕ) → (get_or l i 0 ≡ get_or m i 0 → ⊥) → false ≡ same_list l m
-same-differ l m i h = go (decide (same_list l m))
-  where
-    go : (same_list l m ≡ true) ⊎ (same_list l m ≡ false) → false ≡ same_list l m
-    go (inl e) = absurd (h (ap (λ (x : List ℕ). get_or x i 0) (same-eq l m (true-T e))))
-    go (inr e) = sym e
-
-pub same_at : (l m : List ℕ) (n : ℕ) → length l ≡ n → length m ≡ n → ((i : ℕ) → i < n → get_or l i 0 ≡ get_or m i 0) → true ≡ same_list l m
-same_at l m n a b h = sym (same_refl l) ∙ ap (λ (x : List ℕ). same_list l x) (ext_get_or 0 l m (a ∙ sym b) (λ i q. h i (omega arith)))
+-- `==` of two arrays is that test
+pub pairs-same : (l m : List ℕ) → pointwise eqb l m ≡ same_list l m
+unfolding same_list
+pairs-same [] [] = refl
+pairs-same [] (y ∷ m) = refl
+pairs-same (x ∷ l) [] = refl
+pairs-same (x ∷ l) (y ∷ m) = ap (λ (b : Bool). eqb x y && b) (pairs-same l m)
 
 -- the test of soundness decides it
 pub test-sound : (l : List ℕ) → T (is_sound l) → Sound l

@@ -17,6 +17,7 @@ pub fn row_starts_on(lines: &[u16; 144], code: u8, player: Player, kind: RowKind
 }
 
 // The same by a lent table of addresses.
+#[tactic(auto, unfolding(crate::specs::Lines::starts_by, rules::specs::Tools::tab))]
 pub fn row_starts_by(
     lines: &[u16; 144],
     table: &[u16; 900],
@@ -35,6 +36,7 @@ pub fn row_starts_by(
 }
 
 // .. on the line of an address; 0 where that is nowhere.
+#[tactic(auto, unfolding(crate::specs::Lines::starts_at))]
 pub fn starts_at(lines: &[u16; 144], a: Place, player: Player, kind: RowKind) -> u16
     ensures { result ≡ starts_at lines.now a player kind }
 {

@@ -23,6 +23,7 @@ pub fn remove_on(lines: &mut [u16; 144], code: u8)
 }
 
 // A cell's value, as in cell bytes, on the four lines through a point.
+#[tactic(auto, unfolding(crate::specs::Lines::write_on))]
 fn write_on(lines: &mut [u16; 144], code: u8, value: u8)
     ensures { lines.new ≡ write_on lines.old code value }
 {
@@ -45,6 +46,7 @@ fn write_along(lines: &mut [u16; 144], table: &[u16; 900], d: u8, code: u8, valu
 }
 
 // .. at a cell of one line: its bit in the black mask and in the white one.
+#[tactic(auto, unfolding(crate::specs::Lines::write_line))]
 fn write_line(lines: &mut [u16; 144], key: u8, cell: u8, value: u8)
     requires { key < 72 }
     ensures { lines.new ≡ write_line lines.old key cell value }
@@ -58,6 +60,7 @@ fn write_line(lines: &mut [u16; 144], key: u8, cell: u8, value: u8)
 
 // A stone at a point where none stands: its colour's bit on each stored line through it, which is half of what a put writes. The addresses
 // are those of the lent table, which whoever adds many stones lays out once. Nothing changes at a code over 224, here and below.
+#[tactic(auto, unfolding(crate::specs::Lines::mark_by))]
 pub fn add_by(lines: &mut [u16; 144], table: &[u16; 900], code: u8, player: Player)
     ensures { lines.new ≡ mark_by lines.old table.now code player true }
 {
@@ -68,6 +71,7 @@ pub fn add_by(lines: &mut [u16; 144], table: &[u16; 900], code: u8, player: Play
 }
 
 // The player's stone taken off again.
+#[tactic(auto, unfolding(crate::specs::Lines::mark_by))]
 pub fn lift_by(lines: &mut [u16; 144], table: &[u16; 900], code: u8, player: Player)
     ensures { lines.new ≡ mark_by lines.old table.now code player false }
 {
@@ -77,8 +81,10 @@ pub fn lift_by(lines: &mut [u16; 144], table: &[u16; 900], code: u8, player: Pla
     mark_along(lines, table, 3, code, player, false);
 }
 
-// The player's stone put on its four lines, or lifted from them: for crates that search on boards of their own. `lift_by` is for
-// the referee's cycle, and is compiled into it as long as no other search calls it.
+// The player's stone put on its four lines, or lifted from them: for crates that search on boards of their own.
+// stays: `add_by` and `lift_by` beside it, each with its four calls, for speed. `lift_by` is for the referee's cycle, and is compiled into it
+// as long as no other search calls it.
+#[tactic(auto, unfolding(crate::specs::Lines::mark_by))]
 pub fn mark_by(lines: &mut [u16; 144], table: &[u16; 900], code: u8, player: Player, on: bool)
     ensures { lines.new ≡ mark_by lines.old table.now code player on }
 {
@@ -100,16 +106,14 @@ fn mark_along(lines: &mut [u16; 144], table: &[u16; 900], d: u8, code: u8, playe
 }
 
 // The player's stones on the line of a key; none for a key over 71.
+#[tactic(auto, unfolding(crate::specs::Lines::mask_on))]
 pub fn mask_on(lines: &[u16; 144], key: u8, player: Player) -> u16
     ensures { result ≡ mask_on player lines.now key }
 {
-    if 72 <= key {
-        return 0;
-    }
-    let k = key as usize;
-    match player {
-        Player::Black => lines[k],
-        Player::White => lines[72 + k],
+    if key < 72 {
+        lines[entry_no(player, key)]
+    } else {
+        0
     }
 }
 

@@ -8,7 +8,7 @@ use point::address_by;
 use rules::Player;
 
 // The masks of the four lines through a point.
-#[derive(Clone, Copy)]
+#[derive(Clone, Copy, Debug, PartialEq, Eq)]
 pub struct Stones {
     pub own: [u16; 4],
     pub other: [u16; 4],
@@ -23,6 +23,7 @@ struct LineStones {
 
 // The player's stones on the four lines through a point, by the lent table of addresses: vertical, horizontal, ascending, descending; 0 where
 // no line is stored, as for every code over 224.
+#[tactic(auto, unfolding(crate::specs::Lines::masks_by, rules::specs::Tools::tab))]
 pub fn masks_by(lines: &[u16; 144], table: &[u16; 900], code: u8, player: Player) -> [u16; 4]
     ensures { result ≡ masks_by lines.now table.now code player }
 {
@@ -35,6 +36,7 @@ pub fn masks_by(lines: &[u16; 144], table: &[u16; 900], code: u8, player: Player
 }
 
 // Both colours' stones on those lines, the player's and the opponent's, with one look at each address.
+#[tactic(auto, unfolding(crate::specs::Lines::masks_by, rules::specs::Tools::tab))]
 pub fn stones_by(lines: &[u16; 144], table: &[u16; 900], code: u8, player: Player) -> Stones
     ensures { (result.own ≡ masks_by lines.now table.now code player)
         × (result.other ≡ masks_by lines.now table.now code (opponent_of player)) }

@@ -9,7 +9,9 @@ use lib.ListN.{length, get_or}
 use borrow.Author.Tests.{lt-ltb}
 use Rattle.rules.specs.Numbers.{is_black, is_white, is_none}
 use Rattle.rules.specs.Refusals.{code_refusal}
-use Rattle.rules.specs.Answers.{verdict_answer}
+use Rattle.std.specs.Prelude.{Result, Ok, Err}
+use Rattle.rules.specs.Answers.{answer}
+use Rattle.rules.specs.declared.refusal.Refusal.{Refusal}
 use Rattle.rules.specs.Grid.{is_empty, starts_of, rows_through}
 use Rattle.rules.specs.Forbidden.{some_row, more_than_one, completes_five, is_overline, is_double_four, more_twos, black_rows}
 use Rattle.rules.specs.Forbidden.{may_forbid, plain_with, plain_of, strict_of}
@@ -18,8 +20,6 @@ use Rattle.rules.specs.declared.Player.TheVariants.{Black, White}
 use Rattle.rules.specs.declared.RowKind.{RowKind}
 use Rattle.rules.specs.declared.Verdict.{Verdict}
 use Rattle.rules.specs.declared.Verdict.TheVariants.{None, DoubleFour, Overline}
-use Rattle.rules.specs.declared.answer.VerdictAnswer.{VerdictAnswer}
-use Rattle.rules.specs.declared.answer.VerdictAnswer.TheVariants as verdict
 use Rattle.rules.proofs.Logic.{no_true, true-T}
 use Rattle.rules.proofs.Refusals.{none_first, pass}
 use Rattle.rules.proofs.Starts.{five-is, overline-is, double-four-is, twos-are}
@@ -38,18 +38,17 @@ unfolding cells_refusal_at code_refusal
 at-pass cells p ok hp =
     none_first (cells_refusal cells) (code_refusal p) (cells-pass cells ok) (pass (ltb p 225) 8 (true-T (lt-ltb p 225 hp)))
 
-pub asked-lines : (l : List ℕ) (p : ℕ) → p < 225 → {cells : List ℕ} {a : VerdictAnswer} → cells ≡ cells_of l
-    → a ≡ verdict_answer (cells_refusal_at cells p) (strict_of cells p) → a ≡ verdict.Is (strict_of (cells_of l) p)
-unfolding verdict_answer
+pub asked-lines : (l : List ℕ) (p : ℕ) → p < 225 → {cells : List ℕ} {a : Result Verdict Refusal} → cells ≡ cells_of l
+    → a ≡ answer (cells_refusal_at cells p) (strict_of cells p) → a ≡ Ok (strict_of (cells_of l) p)
+unfolding answer
 asked-lines l p hp ec ea = ea ∙ rw (ec, at-pass (cells_of l) p (cells-cells_of l) hp)
 
 -- so its answer is a verdict, and that one
-pub kind-told : {a : VerdictAnswer} {v w : Verdict} {b : Bool} → a ≡ verdict.Is w → a ≡ verdict.Is v → b ≡ is_none v
-    → not b ≡ not (is_none w)
+pub kind-told : {a : Result Verdict Refusal} {v w : Verdict} {b : Bool} → a ≡ Ok w → a ≡ Ok v → b ≡ is_none v → not b ≡ not (is_none w)
 kind-told {a} {v} {w} asked told e = let same : v ≡ w = cc in ap not e ∙ ap (λ (x : Verdict). not (is_none x)) same
 
-pub never-refused : {a : VerdictAnswer} {w : Verdict} {n : ℕ} → a ≡ verdict.Is w → a ≡ verdict.Refused n → ⊥
-never-refused asked told = let z : ◌≡◌ {A = ℕ} 0 1 = cc in omega arith
+pub never-refused : {a : Result Verdict Refusal} {w : Verdict} {e : Refusal} → a ≡ Ok w → a ≡ Err e → ⊥
+never-refused asked told = cc
 
 -- ---- whether an empty point is forbidden, test by test
 

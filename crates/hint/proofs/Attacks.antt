@@ -2,6 +2,7 @@
 use mathlib.Core.Path.{◌≡◌, refl, sym, subst, ◌∙◌}
 use mathlib.Core.Logic.{◌⊎◌, inl, inr}
 use mathlib.Core.Bool.{Bool, true, false, not, ◌&&◌, ◌||◌, and-false}
+use Rattle.std.specs.Prelude.{Some, None}
 use mathlib.Core.List.{List, [], ◌∷◌}
 use Prim.Native.Nat.{ℕ, ◌<◌}
 use lib.Dec.{T, eqb, ltb, eqb_refl, eqb→eq}
@@ -18,7 +19,7 @@ use Rattle.rules.proofs.Logic.{false-not, not-false}
 use Rattle.rules.proofs.Logic.{any-intro, any-elim}
 use Rattle.rules.proofs.More.{some_row-elim}
 use Rattle.hint.specs.Hint.{legal, completes, may_attack, is_four_eye, eyes_from, ends_by, ends_at, only_eye, forces, after_both, reaches_end}
-use Rattle.hint.specs.Seen.{is_several, EyesAre, Quiet, Forced, AttackIs, AnswerIs}
+use Rattle.hint.specs.Seen.{is_several, OnlyEye, Quiet, Forced, AttackIs, AnswerIs}
 use Rattle.hint.specs.declared.attack.Attack.{Attack}
 use Rattle.hint.specs.declared.attack.Attack.TheVariants as attack
 use Rattle.hint.proofs.Stone.{completes-told, eye-elim, eye-empty, eye-completes}
@@ -120,11 +121,10 @@ module _ (r : Player) (cells : List ℕ) (p : ℕ) (long : length cells ≡ 225)
               yes-none false q = absurd (no_true (sym q))
           permits White q = tt
 
-      pub several-ends : {several : Bool} {first : ℕ} → EyesAre (eyes_from r (put r cells p) p) several first → several ≡ true
-          → AttackIs r cells p attack.Ends
-      unfolding AttackIs ends_at ends_by is_several
-      several-ends eyes e =
-          (may is-legal, or_right (completes r cells p) (ends_by r board (eyes_from r board p)) (go (eyes_from r board p) (sym eyes.more ∙ e)))
+      pub several-ends : OnlyEye (eyes_from r (put r cells p) p) None → AttackIs r cells p attack.Ends
+      unfolding AttackIs ends_at ends_by is_several OnlyEye
+      several-ends more =
+          (may is-legal, or_right (completes r cells p) (ends_by r board (eyes_from r board p)) (go (eyes_from r board p) more))
         where
           go : (l : List ℕ) → is_several l ≡ true → T (ends_by r board l)
           go [] q = absurd (no_true q)
@@ -210,6 +210,11 @@ module _ (r : Player) (cells : List ℕ) (p : ℕ) (long : length cells ≡ 225)
         answered attack.Ends x = (may is-legal, true-T (ends_is ∙ x))
         answered (attack.Forces f) (same, x, y) =
             subst (Forced r cells p) (sym same) (record { may = may is-legal; forced = forced x; quiet = still-quiet y })
+
+-- an eye that is told is the only one
+pub only-told : {l : List ℕ} {e : ℕ} → OnlyEye l (Some e) → l ≡ e ∷ []
+unfolding OnlyEye
+only-told told = told
 
 -- ---- the reply, test by test
 

@@ -8,8 +8,8 @@ use native.Mathlib.Numerals.{add-one}
 use native.Mathlib.Omega.{arith}
 use native.Mathlib.Decide.{ℕ_discrete}
 use lib.Dec.{T, eqb, eqb→eq}
-use lib.ListN.{length, get_or, drop, length-drop, length-set}
-use lib.Seq.{drop-cons}
+use lib.ListN.{length, get_or, take, drop, length-set}
+use Rattle.std.proofs.lemmas.List.{take_all}
 use borrow.Author.Tests.{eq-eqb, ne_eqb, le-ltb}
 use Rattle.rules.specs.Numbers.{colour_no, opponent_of}
 use Rattle.rules.specs.Tools.{any_below}
@@ -20,7 +20,7 @@ use Rattle.point.specs.Places.{addresses}
 use Rattle.grid.specs.Lines.{cells_of, Sound, mark_by}
 use Rattle.grid.proofs.Lines.{length-cells_of}
 use Rattle.hint.specs.Hint.{goes_on, completes, may_attack, is_four_eye, eyes_from, ends_at, only_eye, forces, after_both, reaches_end, acceptable}
-use Rattle.hint.specs.Seen.{Quiet, Forced, AttackIs, NextIs}
+use Rattle.hint.specs.Seen.{Quiet, Forced, AttackIs}
 use Rattle.hint.specs.declared.attack.Attack.{Attack}
 use Rattle.hint.specs.declared.attack.Attack.TheVariants as attack
 use Rattle.hint.proofs.Stone.{eye-elim, eye-empty}
@@ -31,30 +31,24 @@ use Rattle.hint.proofs.OnLines.{put-sound, put-cells, put_back, empty-is}
 
 -- ---- what is left of a list
 
-pub drop_all : (l : List ℕ) (at : ℕ) → length l ≤ at → drop at l ≡ []
-drop_all l at h = empty (drop at l) (let e = length-drop at l in omega arith)
-  where
-    empty : (m : List ℕ) → length m ≡ 0 → m ≡ []
-    empty [] e = refl
-    empty (x ∷ m) e = absurd (omega arith)
+no_length : (l : List ℕ) → length l ≡ 0 → l ≡ []
+no_length [] e = refl
+no_length (x ∷ l) e = absurd (omega arith)
 
-pub drop-next : (l : List ℕ) (at : ℕ) → at < length l → drop at l ≡ get_or l at 0 ∷ drop (at + 1) l
-drop-next l at h = drop-cons l at 0 h ∙ rw add-one
+-- its first point and what is behind it, as a slice's pattern parts them
+pub parted : (l : List ℕ) → 1 ≤ length l → l ≡ get_or l 0 0 ∷ take (length l - 1) (drop 1 l)
+parted [] h = absurd (omega arith)
+parted (x ∷ l) h = ap (λ (m : List ℕ). x ∷ m) (sym (take_all (length (x ∷ l) - 1) l (omega arith)))
 
 -- whether nothing is left
 is_nil : List ℕ → Bool
 is_nil [] = true
 is_nil (x ∷ l) = false
 
-is-nil : (l : List ℕ) (at : ℕ) → at ≤ length l → eqb at (length l) ≡ is_nil (drop at l)
+is-nil : (l : List ℕ) → eqb (length l) 0 ≡ is_nil l
 unfolding is_nil
-is-nil l at h = go (ℕ_discrete at (length l)) (drop at l) (length-drop at l)
-  where
-    go : Dec (at ≡ length l) → (m : List ℕ) → length m ≡ length l - at → eqb at (length l) ≡ is_nil m
-    go (yes q) [] e = eq-eqb at (length l) q
-    go (yes q) (x ∷ m) e = absurd (omega arith)
-    go (no q) [] e = absurd (q (omega arith))
-    go (no q) (x ∷ m) e = ne_eqb at (length l) q
+is-nil [] = refl
+is-nil (x ∷ l) = ne_eqb (length (x ∷ l)) 0 (λ z. omega arith)
 
 -- ---- one attack of it
 
@@ -71,8 +65,8 @@ module _ (r : Player) (cells : List ℕ) (p : ℕ) {a : Attack} (is : AttackIs r
       go [] m n = rw (m, n)
       go (x ∷ rest) m n = rw (m, n)
 
-  pub at-ends : a ≡ attack.Ends → (l : List ℕ) (at : ℕ) → at ≤ length l → eqb at (length l) ≡ reaches_end r cells (p ∷ drop at l)
-  at-ends e l at h = is-nil l at h ∙ sym (ends-nil e (drop at l))
+  pub at-ends : a ≡ attack.Ends → (rest : List ℕ) {b : Bool} → b ≡ eqb (length rest) 0 → b ≡ reaches_end r cells (p ∷ rest)
+  at-ends e rest b = b ∙ is-nil rest ∙ sym (ends-nil e rest)
 
   pub at-forced : {e : ℕ} → a ≡ attack.Forces e → Forced r cells p e
   unfolding AttackIs
@@ -110,9 +104,9 @@ module _ (r : Player) (cells : List ℕ) (p e : ℕ) (f : Forced r cells p e) wh
   reply-free long =
       eye-empty r (put r cells p) e (length-set cells p (colour_no r) ∙ long) reply-lt (eye-elim r (put r cells p) p e eye-is.1)
 
-  pub forced-nil : (rest : List ℕ) → rest ≡ [] → false ≡ reaches_end r cells (p ∷ rest)
+  pub forced-nil : (rest : List ℕ) → length rest < 1 → false ≡ reaches_end r cells (p ∷ rest)
   unfolding reaches_end
-  forced-nil rest n = sym (ap (λ (l : List ℕ). reaches_end r cells (p ∷ l)) n ∙ rw (goes_on_lem, and-false (may_attack r cells p)))
+  forced-nil rest n = sym (ap (λ (l : List ℕ). reaches_end r cells (p ∷ l)) (no_length rest (omega arith)) ∙ rw (goes_on_lem, and-false (may_attack r cells p)))
 
   -- another reply than the eye's
   pub forced-other : (x : ℕ) (rest list : List ℕ) → list ≡ x ∷ rest → (x ≡ e → ⊥) → false ≡ reaches_end r cells (p ∷ list)
@@ -175,37 +169,14 @@ module _ (r : Player) (l table : List ℕ) (p e : ℕ) (s : Sound l) (f : Forced
       (put_back (opponent_of r) m table e one-sound (reply-lt r (cells_of l) p e f) free et en' ea
       (eb ∙ ap (λ (x : Player). mark_by a table e x false) eq)) ec
 
--- ---- what is answered of one attack
-
-pub next-stop : (side : Player) (l m list rest : List ℕ) {ends : Bool} → ends ≡ reaches_end side (cells_of l) list
-    → NextIs side l m list rest false ends
-next-stop side l m list rest e =
-    record {
-      stops = λ q. e;
-      sound = λ q. absurd (no_true q);
-      quiet = λ q. absurd (no_true q);
-      same = λ q. absurd (no_true q);
-    }
-
-pub next-goes : (side : Player) (l m list rest : List ℕ) {ends : Bool} → Sound m → Quiet side (cells_of m)
-    → reaches_end side (cells_of l) list ≡ reaches_end side (cells_of m) rest → NextIs side l m list rest true ends
-next-goes side l m list rest s q e =
-    record { stops = λ z. absurd (no_true (sym z)); sound = λ z. s; quiet = λ z. q; same = λ z. e }
-
-pub next-moved : (side : Player) {l l' m list list' rest rest' : List ℕ} {goes ends : Bool} → l' ≡ l → list' ≡ list → rest' ≡ rest
-    → NextIs side l' m list' rest' goes ends → NextIs side l m list rest goes ends
-next-moved side {l} {l'} {m} {list} {list'} {rest} {rest'} {goes} {ends} el ei er n =
-    subst (λ (x : List ℕ). NextIs side x m list rest goes ends) el
-    (subst (λ (x : List ℕ). NextIs side l' m x rest goes ends) ei (subst (λ (x : List ℕ). NextIs side l' m list' x goes ends) er n))
-
 -- a code that is no point
 pub no-point : (r : Player) (cells : List ℕ) (p : ℕ) → 225 ≤ p → (list rest : List ℕ) → list ≡ p ∷ rest → false ≡ reaches_end r cells list
 no-point r cells p h list rest e = sym (ap (reaches_end r cells) e ∙ off-board r cells p (le-ltb p 225 h) rest)
 
 -- nothing left
-pub none_left : (r : Player) (cells list : List ℕ) → list ≡ [] → false ≡ reaches_end r cells list
+pub none_left : (r : Player) (cells list : List ℕ) → length list < 1 → false ≡ reaches_end r cells list
 unfolding reaches_end
-none_left r cells list e = rw e
+none_left r cells list h = rw (no_length list (omega arith))
 
 -- ---- the whole check, by whether a line may begin
 

@@ -2,18 +2,22 @@
 use mathlib.Core.Path.{◌≡◌, refl, ap, sym, ◌∙◌}
 use mathlib.Core.Logic.{◌⊎◌, inl, inr}
 use mathlib.Core.Bool.{Bool, true, false, ◌&&◌, cond}
-use mathlib.Core.List.{List, [], ◌∷◌}
+use mathlib.Core.List.{List, [], ◌++◌}
 use Prim.Native.Nat.{ℕ, ◌+◌, ◌≤◌}
 use native.Mathlib.Omega.{arith}
-use lib.Dec.{leb}
-use lib.ListN.{length}
-use lib.Seq.{sets}
+use lib.Dec.{eqb, leb}
+use lib.ListN.{length, take, drop}
+use lib.Seq.{sets, take-append_seam}
+use Rattle.std.proofs.lemmas.List.Edits.{sets-eq}
 use borrow.Author.Tests.{leb-true, le-leb}
+use Rattle.std.specs.Prelude.{Result, Ok, Err}
 use Rattle.rules.specs.Refusals.{no_room, unless, first, colour_refusal}
+use Rattle.rules.specs.Answers.{answer, checked}
+use Rattle.rules.specs.declared.refusal.Refusal.{Refusal}
 use Rattle.rules.proofs.Logic.{decide}
 use Rattle.rules.proofs.Refusals.{first-none}
-use Rattle.lent.specs.Lists.{zeros, Held}
-use Rattle.lent.proofs.Laws.{wrote-held}
+use Rattle.lent.specs.Lists.{kept}
+use Rattle.lent.proofs.Laws.{kept_lem}
 use Rattle.cells.specs.Cells.{Cells, cells_refusal, codes_refusal}
 use Rattle.cells.proofs.Given.{cells_in}
 use Rattle.grid.specs.Lines.{cells_of, lines_of, Sound}
@@ -45,16 +49,6 @@ module _ (cells : List ℕ) (colour limit : ℕ) (out : List ℕ) (e : plan_refu
       go true (inr t) q = absurd (let z : ◌≡◌ {A = ℕ} 21 0 = sym (rw t refl) ∙ q in omega arith)
       go false (inr t) q = absurd (let z : ◌≡◌ {A = ℕ} 21 0 = q in omega arith)
 
--- the limit
-module _ (n : ℕ) where
-  pub limit-none : n ≡ 0 → 21 ≡ limit_refusal n
-  unfolding limit_refusal unless
-  limit-none e = rw e
-
-  pub limit-told : (n ≡ 0 → ⊥) → {r : ℕ} → r ≡ unless (leb n 6) 21 → r ≡ limit_refusal n
-  unfolding limit_refusal
-  limit-told h e = e ∙ ap (λ (b : Bool). unless (b && leb n 6) 21) (sym (le-leb 1 n (omega arith)))
-
 -- the lines of a board's cells
 module _ (cells : List ℕ) (ok : Cells cells) {l : List ℕ} (e : l ≡ lines_of cells) where
   pub lines-sound : Sound l
@@ -63,14 +57,30 @@ module _ (cells : List ℕ) (ok : Cells cells) {l : List ℕ} (e : l ≡ lines_o
   pub lines-cells : cells_of l ≡ cells
   lines-cells = ap cells_of e ∙ cells-lines_of cells ok
 
--- a plan that is written in a buffer of its own
-pub plan-held : (l : List ℕ) {buf out : List ℕ} {n : ℕ} → out ≡ zeros 11 → n ≡ length l → buf ≡ sets out 0 l → length l ≤ 11 → Held 11 l buf n
-plan-held l {buf} {out} {n} eo en eb h =
-    wrote-held 11 l buf n (record { buffer = eb ∙ ap (λ (o : List ℕ). sets o 0 l) eo; place = en ∙ zero-add (length l) }) h
-  where
-    zero-add : (n : ℕ) → n ≡ 0 + n
-    zero-add n = omega arith
+-- ---- a refusal behind others, none of which is given
 
-pub zeros-11 : 0 ∷ 0 ∷ 0 ∷ 0 ∷ 0 ∷ 0 ∷ 0 ∷ 0 ∷ 0 ∷ 0 ∷ 0 ∷ [] ≡ zeros 11
-unfolding zeros
-zeros-11 = refl
+module _ {x : Refusal} (a b : ℕ) where
+  pub told-first : checked a ≡ Err x → checked (first a b) ≡ Err x
+  unfolding answer first
+  told-first e = go (eqb a 0) refl
+    where
+      go : (t : Bool) → eqb a 0 ≡ t → checked (first a b) ≡ Err x
+      go true q = let z : Ok tt ≡ Err x = rw q at e in cc
+      go false q = rw q e
+
+  pub told-second : a ≡ 0 → checked b ≡ Err x → checked (first a b) ≡ Err x
+  unfolding first
+  told-second none e = rw none e
+
+-- .. that is what is answered
+pub told_so : {r : Result Unit Refusal} {x : Refusal} (n : ℕ) → checked n ≡ Err x → r ≡ Err x → r ≡ checked n
+told_so n e k = k ∙ sym e
+
+-- ---- a line that is written in a buffer of its own, then kept
+
+pub kept-line : (l old : List ℕ) {points none line : List ℕ} {n : ℕ} → length old ≡ 11 → none ≡ [] → n ≡ length l → points ≡ sets old 0 l → length l ≤ 11
+    → line ≡ kept 11 none (take n points) → line ≡ l
+kept-line l old {points} {none} {line} {n} long z en ep h k =
+    let front : points ≡ l ++ drop (0 + length l) old = ep ∙ sets-eq l old 0 (omega arith) in
+    let is : take n points ≡ l = rw (en, front) (take-append_seam l (drop (0 + length l) old)) in
+    k ∙ rw (z, is) (kept_lem 11 [] l (omega arith))

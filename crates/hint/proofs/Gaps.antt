@@ -2,8 +2,9 @@
 -- nothing.
 use mathlib.Core.Path.{◌≡◌, refl, sym, subst, ap, ap₂, ◌∙◌}
 use mathlib.Core.Bool.{Bool, true, false, not, ◌&&◌}
+use Rattle.std.specs.Prelude.{Some, None}
 use mathlib.Core.List.{List}
-use Prim.Native.Nat.{ℕ, ◌+◌, ◌-◌, ◌*◌, ◌/◌, ◌%◌, ◌≤◌, ◌<◌}
+use Prim.Native.Nat.{ℕ, zero, suc, ◌+◌, ◌-◌, ◌*◌, ◌/◌, ◌%◌, ◌≤◌, ◌<◌}
 use native.Mathlib.Nat.{add-zero}
 use native.Mathlib.Omega.{arith}
 use native.Mathlib.Decide.{ℕ_discrete, dec_lt}
@@ -24,7 +25,7 @@ use Rattle.rules.proofs.Numbered.{next_le, next-ge, next-on, next-none, next-fir
 use Rattle.rules.proofs.More.{some_row-elim}
 use Rattle.rules.proofs.Windows.{free-at}
 use Rattle.hint.specs.Hint.{is_four_eye, eyes_from}
-use Rattle.hint.specs.Seen.{gap_of, sword_eye, is_several, EyesAre}
+use Rattle.hint.specs.Seen.{gap_of, sword_eye, is_several, OnlyEye}
 use Rattle.hint.proofs.OneLine.{Scored, scores-says, four-gap}
 use Rattle.hint.proofs.Stone.{four-scores, none-empty, within, in_window}
 use Rattle.hint.proofs.Swords.{sword-four}
@@ -74,25 +75,21 @@ is-on {b = true} e = refl
 is-on {b = false} e = absurd (no_true (sym e))
 
 module _ (own : Stones) (j : ℕ) where
-  pub gap-0 : own j ≡ false → j ≡ gap_of own j
+  -- the first of four cells without a stone
+  pub gap-there : (k : ℕ) → k < 4 → ((i : ℕ) → i < k → own (j + i) ≡ true) → own (j + k) ≡ false → j + k ≡ gap_of own j
   unfolding gap_of
-  gap-0 a = rw a
+  gap-there zero h all none = let e : own j ≡ false = rw add-zero at none in rw (add-zero, e)
+  gap-there (suc zero) h all none = let e : own j ≡ true = rw add-zero at (all 0 (omega arith)) in rw (e, none)
+  gap-there (suc (suc zero)) h all none = let e : own j ≡ true = rw add-zero at (all 0 (omega arith)) in rw (e, all 1 (omega arith), none)
+  gap-there (suc (suc (suc zero))) h all none = let e : own j ≡ true = rw add-zero at (all 0 (omega arith)) in rw (e, all 1 (omega arith), all 2 (omega arith), none)
+  gap-there (suc (suc (suc (suc k)))) h all none = absurd (omega arith)
 
-  pub gap-1 : own j ≡ true → own (j + 1) ≡ false → j + 1 ≡ gap_of own j
+  -- .. or else the fifth
+  pub gap-last : ((i : ℕ) → i < 4 → own (j + i) ≡ true) → j + 4 ≡ gap_of own j
   unfolding gap_of
-  gap-1 a b = rw (a, b)
-
-  pub gap-2 : own j ≡ true → own (j + 1) ≡ true → own (j + 2) ≡ false → j + 2 ≡ gap_of own j
-  unfolding gap_of
-  gap-2 a b c = rw (a, b, c)
-
-  pub gap-3 : own j ≡ true → own (j + 1) ≡ true → own (j + 2) ≡ true → own (j + 3) ≡ false → j + 3 ≡ gap_of own j
-  unfolding gap_of
-  gap-3 a b c d = rw (a, b, c, d)
-
-  pub gap-4 : own j ≡ true → own (j + 1) ≡ true → own (j + 2) ≡ true → own (j + 3) ≡ true → j + 4 ≡ gap_of own j
-  unfolding gap_of
-  gap-4 a b c d = rw (a, b, c, d)
+  gap-last all =
+      let e : own j ≡ true = rw add-zero at (all 0 (omega arith)) in
+      rw (e, all 1 (omega arith), all 2 (omega arith), all 3 (omega arith))
 
 -- of the walk from Sword to Sword: k is a Sword's number or 64, and the eyes of those before it are all one
 pub record Agree (r : Player) (cells : List ℕ) (p first k : ℕ) : Type 0 where
@@ -263,24 +260,20 @@ module _ (r : Player) (cells : List ℕ) (p : ℕ) (long : length cells ≡ 225)
 
   pub several-eyes : (a k : ℕ) → a < 64 → k < 64 → T (rows_through r Sword cells p (a / 16) (a % 16))
       → T (rows_through r Sword cells p (k / 16) (k % 16)) → (sword_eye r cells p (k / 16) (k % 16) ≡ sword_eye r cells p (a / 16) (a % 16) → ⊥)
-      → (first : ℕ) → EyesAre (eyes_from r (put r cells p) p) true first
-  unfolding eyes_from
-  several-eyes a k ha hk ta tk differ first =
+      → OnlyEye (eyes_from r (put r cells p) p) None
+  unfolding eyes_from OnlyEye
+  several-eyes a k ha hk ta tk differ =
       let x = sword-eye (a / 16) (a % 16) (omega arith) ta in
       let y = sword-eye (k / 16) (k % 16) (omega arith) tk in
-      record {
-        more = sym (two-picked (is_four_eye r board p) 225 _ _ y.lt x.lt y.eye x.eye differ);
-        one = λ e. absurd (no_true (sym e));
-      }
+      two-picked (is_four_eye r board p) 225 _ _ y.lt x.lt y.eye x.eye differ
 
   pub one-eye : (a first : ℕ) → a < 64 → T (rows_through r Sword cells p (a / 16) (a % 16)) → first ≡ sword_eye r cells p (a / 16) (a % 16)
-      → (k : ℕ) → 64 ≤ k → Agree r cells p first k → EyesAre (eyes_from r (put r cells p) p) false first
-  unfolding eyes_from is_several
+      → (k : ℕ) → 64 ≤ k → Agree r cells p first k → OnlyEye (eyes_from r (put r cells p) p) (Some first)
+  unfolding eyes_from OnlyEye
   one-eye a first ha ta ef k hk agree =
       let x = sword-eye (a / 16) (a % 16) (omega arith) ta in
-      let is = one-picked (is_four_eye r board p) 225 first (subst (λ (y : ℕ). y < 225) (sym ef) x.lt)
-      (subst (λ (y : ℕ). T (is_four_eye r board p y)) (sym ef) x.eye) alone in
-      record { more = sym (ap is_several is); one = λ e. is }
+      one-picked (is_four_eye r board p) 225 first (subst (λ (y : ℕ). y < 225) (sym ef) x.lt)
+      (subst (λ (y : ℕ). T (is_four_eye r board p y)) (sym ef) x.eye) alone
     where
       alone : (e : ℕ) → e < 225 → T (is_four_eye r board p e) → e ≡ first
       alone e he t =

@@ -132,6 +132,10 @@ shown-rows r kind l k s hk =
 
 -- ---- whether a line may begin
 
+pub not-no : {b : Bool} → not b ≡ false → b ≡ true
+not-no {b = true} e = refl
+not-no {b = false} e = sym e
+
 module _ (side : Player) (cells : List ℕ) (long : length cells ≡ 225) {b : Bool} (eb : b ≡ any_below 72 (row_on_key Black Five cells)) where
   pub open-black : b ≡ true → false ≡ (goes_on cells && not (any_below 225 (completes (opponent_of side) cells)))
   unfolding goes_on

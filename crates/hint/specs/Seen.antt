@@ -1,5 +1,5 @@
 -- What the code sees of an attack. No public statement cites what is said here.
-use Rattle.std.specs.Prelude.{◌≡◌, Bool, true, false, not, ◌&&◌, ◌||◌, cond, List, [], ◌∷◌, ℕ, ◌+◌, ◌≤◌, ◌<◌, T, eqb, length, get_or}
+use Rattle.std.specs.Prelude.{◌≡◌, Bool, true, false, not, ◌&&◌, ◌||◌, cond, List, [], ◌∷◌, Option, Some, None, ℕ, ◌+◌, ◌≤◌, ◌<◌, T, eqb, length, get_or}
 use Rattle.rules.specs.Numbers.{is_black, is_none, opponent_of}
 use Rattle.rules.specs.Tools.{any_below}
 use Rattle.rules.specs.Bit.{bit, mask_of}
@@ -31,10 +31,10 @@ is_several [] = false
 is_several (e ∷ []) = false
 is_several (e ∷ f ∷ more) = true
 
--- eyes as the code tells them: several, or one only, the first
-pub record EyesAre (l : List ℕ) (several : Bool) (first : ℕ) : Type 0 where
-  pub more : several ≡ is_several l
-  pub one : several ≡ false → l ≡ first ∷ []
+-- eyes as the code tells them: the only one, or none where there are several
+unfoldable pub OnlyEye : List ℕ → Option ℕ → Type 0
+OnlyEye l (Some e) = l ≡ e ∷ []
+OnlyEye l None = is_several l ≡ true
 
 -- ---- an attack
 
@@ -61,15 +61,6 @@ AnswerIs defender cells e attack.No =
 AnswerIs defender cells e attack.Ends = (is_black defender && not (is_none (strict_of cells e))) ≡ true
 AnswerIs defender cells e (attack.Forces f) =
     (f ≡ e) × ((is_black defender && not (is_none (strict_of cells e))) ≡ false) × (some_row (rows_through defender Sword cells e) ≡ false)
-
--- ---- a list
-
--- one attack of a list, before and after which the lines are l and m, and what is left of the list: it goes on from there, or ends so or not
-pub record NextIs (side : Player) (l m list rest : List ℕ) (goes ends : Bool) : Type 0 where
-  pub stops : goes ≡ false → ends ≡ reaches_end side (cells_of l) list
-  pub sound : goes ≡ true → Sound m
-  pub quiet : goes ≡ true → Quiet side (cells_of m)
-  pub same : goes ≡ true → reaches_end side (cells_of l) list ≡ reaches_end side (cells_of m) rest
 
 -- ---- the board, line by line
 

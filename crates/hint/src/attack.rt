@@ -6,14 +6,14 @@ ghost use Rattle.grid.specs.Lines.{cells_of, Sound};
 ghost use Rattle.hint.specs.Hint.{eyes_from};
 ghost use Rattle.hint.specs.Seen.{Quiet, AttackIs, AnswerIs};
 
-use super::eyes::eyes_by;
+use super::eyes::only_eye;
 use super::look::{is_forbidden, rows_for};
 use grid::{cell_on, mark_by};
 use near::some_row;
 use rules::Player;
 
 // No line begins with it; it ends the line; or the defender must reply at its only eye, and may, and completes nothing after it.
-#[derive(Clone, Copy)]
+#[derive(Clone, Copy, Debug, PartialEq, Eq)]
 pub(crate) enum Attack {
     No,
     Ends,
@@ -34,23 +34,17 @@ pub(crate) fn attack_at(
         return Attack::No;
     }
     let rows = rows_for(lines, table, code, side);
-    let fours = rows.fours;
-    if some_row(fours) {
+    if some_row(rows.fours) {
         return Attack::Ends;
     }
-    let swords = rows.swords;
-    if !some_row(swords) {
+    if !some_row(rows.swords) || is_forbidden(lines, code, side, rows) {
         return Attack::No;
     }
-    if is_forbidden(lines, code, side, rows) {
-        return Attack::No;
-    }
-    let eyes = eyes_by(lines, table, code, side, swords);
-    if eyes.several {
+    let Some(eye) = only_eye(lines, table, code, side, rows.swords) else {
         return Attack::Ends;
-    }
+    };
     mark_by(lines, table, code, side, true);
-    let answer = answer_at(lines, table, eyes.first, side.opponent());
+    let answer = answer_at(lines, table, eye, side.opponent());
     mark_by(lines, table, code, side, false);
     answer
 }
@@ -65,8 +59,7 @@ fn answer_at(lines: &[u16; 144], table: &[u16; 900], eye: u8, defender: Player) 
     if is_forbidden(lines, eye, defender, rows) {
         return Attack::Ends;
     }
-    let swords = rows.swords;
-    if some_row(swords) {
+    if some_row(rows.swords) {
         return Attack::No;
     }
     Attack::Forces(eye)

@@ -7,7 +7,7 @@ ghost use Rattle.rules.specs.declared.RowKind.TheVariants.{Sword};
 ghost use Rattle.point.specs.Places.{addresses};
 ghost use Rattle.grid.specs.Lines.{cells_of, Sound};
 ghost use Rattle.hint.specs.Hint.{eyes_from};
-ghost use Rattle.hint.specs.Seen.{gap_of, sword_eye, EyesAre};
+ghost use Rattle.hint.specs.Seen.{gap_of, sword_eye, OnlyEye};
 
 use grid::mask_on;
 use masks::{bit_at, set_bit};
@@ -15,42 +15,30 @@ use near::next_start;
 use point::{address_by, line_no, point_at};
 use rules::Player;
 
-// More than one, or one only, and which.
-#[derive(Clone, Copy)]
-pub(crate) struct Eyes {
-    pub(crate) several: bool,
-    pub(crate) first: u8,
-}
-
-// Sword by Sword, until one has another eye than the first.
-pub(crate) fn eyes_by(
+// The only eye, where there is one only; None where there are more. Sword by Sword, until one has another eye than the first.
+pub(crate) fn only_eye(
     lines: &[u16; 144],
     table: &[u16; 900],
     code: u8,
     side: Player,
     swords: [u16; 4],
-) -> Eyes
+) -> Option<u8>
     requires { Sound lines.now × (code < 225) × (get_or (cells_of lines.now) code 0 ≡ 0) × (table.now ≡ addresses)
         × (swords ≡ start_masks (rows_through side Sword (cells_of lines.now) code))
         × T (some_row (rows_through side Sword (cells_of lines.now) code)) }
-    ensures { EyesAre (eyes_from side (put side (cells_of lines.now) code) code) result.several result.first }
+    ensures { OnlyEye (eyes_from side (put side (cells_of lines.now) code) code) result }
 {
     let mut sword = next_start(swords, 0);
     let first = eye_at(lines, table, code, side, sword);
     sword = next_start(swords, sword + 1);
+    // stays: a walk from Sword to Sword, at uneven steps
     while sword < 64 {
         if eye_at(lines, table, code, side, sword) != first {
-            return Eyes {
-                several: true,
-                first,
-            };
+            return None;
         }
         sword = next_start(swords, sword + 1);
     }
-    Eyes {
-        several: false,
-        first,
-    }
+    Some(first)
 }
 
 // The eye of the Four that the stone makes of a Sword: the gap that is left.
@@ -70,17 +58,10 @@ fn gap_from(stones: u16, j: u8) -> u8
     requires { j < 16 }
     ensures { result ≡ gap_of (bit stones) j }
 {
-    if !bit_at(stones, j) {
-        return j;
-    }
-    if !bit_at(stones, j + 1) {
-        return j + 1;
-    }
-    if !bit_at(stones, j + 2) {
-        return j + 2;
-    }
-    if !bit_at(stones, j + 3) {
-        return j + 3;
+    for k in 0..4 {
+        if !bit_at(stones, j + k) {
+            return j + k;
+        }
     }
     j + 4
 }

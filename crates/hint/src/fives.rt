@@ -20,13 +20,9 @@ pub(crate) fn is_open(lines: &[u16; 144], side: Player) -> bool
     ensures { result ≡ (goes_on (cells_of lines.now)
         && not (any_below 225 (completes (opponent_of side) (cells_of lines.now)))) }
 {
-    if has_row(lines, Player::Black, RowKind::Five) {
-        return false;
-    }
-    if has_row(lines, Player::White, RowKind::Five) {
-        return false;
-    }
-    !has_row(lines, side.opponent(), RowKind::Four)
+    !has_row(lines, Player::Black, RowKind::Five)
+        && !has_row(lines, Player::White, RowKind::Five)
+        && !has_row(lines, side.opponent(), RowKind::Four)
 }
 
 // Whether the player has a row of the kind on some line.
@@ -34,12 +30,10 @@ fn has_row(lines: &[u16; 144], player: Player, kind: RowKind) -> bool
     requires { Sound lines.now }
     ensures { result ≡ any_below 72 (row_on_key player kind (cells_of lines.now)) }
 {
-    let mut key = 0u8;
-    while key < 72 {
+    for key in 0..72u8 {
         if starts_on(lines, key, player, kind) != 0 {
             return true;
         }
-        key += 1;
     }
     false
 }

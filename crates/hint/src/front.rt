@@ -1,8 +1,8 @@
 // What a user calls, on cell bytes, which are not changed: the check of a line, and the plan of one.
-ghost use Rattle.std.specs.Prelude.{◌≡◌, ◌≤◌, length};
+ghost use Rattle.std.specs.Prelude.{◌≡◌, ◌≤◌};
 ghost use Rattle.rules.specs.Numbers.{player_of};
-ghost use Rattle.rules.specs.Answers.{test_answer};
-ghost use Rattle.lent.specs.Lists.{Held, counted, list_out};
+ghost use Rattle.rules.specs.Answers.{answer, checked};
+ghost use Rattle.lent.specs.Lists.{counted, list_out};
 ghost use Rattle.cells.specs.Cells.{Cells};
 ghost use Rattle.hint.specs.Hint.{acceptable};
 ghost use Rattle.hint.specs.Planner.{plan_of};
@@ -12,44 +12,33 @@ use super::check::check_on;
 use super::fives::is_open;
 use super::plan::plan_on;
 use super::tries::tries_of;
-use cells::{cells_refusal, codes_refusal, hand_out};
+use cells::{cells_refusal, codes_refusal};
 use grid::lines_of;
+use lent::{Kept, hand_out};
 use point::addresses;
-use rules::{CountAnswer, Player, TestAnswer, colour_refusal, first, unless};
-
-// A line as it is found: at most 11 points, and how many.
-#[derive(Clone, Copy)]
-struct Line {
-    points: [u8; 11],
-    len: usize,
-}
+use rules::{Player, Refusal, colour_refusal, unless};
 
 // Whether a list of points is a sure win by fours for the colour, to move.
-pub fn win_check_of(cells: &[u8], colour: u8, list: &[u8]) -> TestAnswer
-    ensures { result ≡ test_answer (check_refusal cells.now colour list.now)
+#[tactic(auto, unfolding(rules::specs::Answers::answer))]
+pub fn win_check_of(cells: &[u8], colour: u8, list: &[u8]) -> Result<bool, Refusal>
+    ensures { result ≡ answer (check_refusal cells.now colour list.now)
         (acceptable (player_of colour) cells.now list.now) }
 {
-    let refused = check_refusal(cells, colour, list);
-    if refused != 0 {
-        return TestAnswer::Refused(refused);
-    }
-    TestAnswer::Is(checked(cells, Player::or_white(colour), list))
+    check_refusal(cells, colour, list)?;
+    Ok(checked(cells, Player::or_white(colour), list))
 }
 
 // The first such list of at most `limit` attacks by comparing codes from the front, and how many points it has; none where there is no line.
-pub fn win_plan_of(cells: &[u8], colour: u8, limit: u8, out: &mut [u8]) -> CountAnswer
+#[tactic(auto, unfolding(rules::specs::Answers::answer, rules::specs::Refusals::first, lent::specs::Lists::list_refusal, lent::specs::Lists::list_out, lent::specs::Lists::counted))]
+pub fn win_plan_of(cells: &[u8], colour: u8, limit: u8, out: &mut [u8]) -> Result<u16, Refusal>
     ensures { (result ≡ counted 1 (plan_refusal cells.now colour limit out.old) out.old
         (plan_of (player_of colour) limit cells.now))
         × (out.new ≡ list_out (plan_refusal cells.now colour limit out.old) out.old
         (plan_of (player_of colour) limit cells.now)) }
 {
-    let refused = plan_refusal(cells, colour, limit, out);
-    if refused != 0 {
-        return CountAnswer::Refused(refused);
-    }
+    plan_refusal(cells, colour, limit, out)?;
     let line = planned(cells, Player::or_white(colour), limit);
-    let points = line.points;
-    hand_out(0, &points, line.len, line.len as u16, out)
+    hand_out(line.as_slice(), line.len() as u16, out)
 }
 
 // The check, of the cells of a board.
@@ -58,55 +47,58 @@ fn checked(cells: &[u8], side: Player, list: &[u8]) -> bool
     ensures { result ≡ acceptable side cells.now list.now }
 {
     let mut lines = lines_of(cells);
-    if !is_open(&lines, side) {
-        return false;
-    }
-    let table = addresses();
-    check_on(&mut lines, &table, side, list)
+    is_open(&lines, side) && check_on(&mut lines, &addresses(), side, list)
 }
 
-// The plan, of the cells of a board.
-fn planned(cells: &[u8], side: Player, limit: u8) -> Line
+// The plan, of the cells of a board: at most 11 points.
+fn planned(cells: &[u8], side: Player, limit: u8) -> Kept<11>
     requires { Cells cells.now × (limit ≤ 6) }
-    ensures { Held 11 (plan_of side limit cells.now) result.points result.len }
+    ensures { result ≡ plan_of side limit cells.now }
 {
-    let mut points = [0u8; 11];
+    let mut line = Kept::new();
     let mut lines = lines_of(cells);
     if !is_open(&lines, side) {
-        return Line { points, len: 0 };
+        return line;
     }
-    let table = addresses();
     let tries = tries_of(&lines, side);
-    let len = plan_on(&mut lines, &table, side, limit, &tries, &mut points, 0);
-    Line { points, len }
+    let mut points = [0u8; 11];
+    let count = plan_on(
+        &mut lines,
+        &addresses(),
+        side,
+        limit,
+        &tries,
+        &mut points,
+        0,
+    );
+    line.keep(&points[..count]);
+    line
 }
 
 // "9, 8, 12 for the side"
-fn check_refusal(cells: &[u8], colour: u8, list: &[u8]) -> u8
-    ensures { result ≡ check_refusal cells.now colour list.now }
+#[tactic(auto, unfolding(rules::specs::Answers::answer, rules::specs::Refusals::first, crate::specs::Refused::check_refusal))]
+fn check_refusal(cells: &[u8], colour: u8, list: &[u8]) -> Result<(), Refusal>
+    ensures { result ≡ checked (check_refusal cells.now colour list.now) }
 {
-    first(
-        first(cells_refusal(cells), codes_refusal(list)),
-        colour_refusal(colour),
-    )
+    cells_refusal(cells)?;
+    codes_refusal(list)?;
+    colour_refusal(colour)
 }
 
 // "9, .. 12 for the side, then 21 for a limit outside 1 to 6, then 13 for an output under 11 bytes"
-fn plan_refusal(cells: &[u8], colour: u8, limit: u8, out: &[u8]) -> u8
-    ensures { result ≡ plan_refusal cells.now colour limit out.now }
+#[tactic(auto, unfolding(rules::specs::Answers::answer, rules::specs::Refusals::first, rules::specs::Refusals::unless, crate::specs::Refused::plan_refusal))]
+fn plan_refusal(cells: &[u8], colour: u8, limit: u8, out: &[u8]) -> Result<(), Refusal>
+    ensures { result ≡ checked (plan_refusal cells.now colour limit out.now) }
 {
-    let asked = first(
-        first(cells_refusal(cells), colour_refusal(colour)),
-        limit_refusal(limit),
-    );
-    first(asked, unless(11 <= out.len(), 13))
+    cells_refusal(cells)?;
+    colour_refusal(colour)?;
+    limit_refusal(limit)?;
+    unless(11 <= out.len(), Refusal::NoRoom)
 }
 
-fn limit_refusal(limit: u8) -> u8
-    ensures { result ≡ limit_refusal limit }
+#[tactic(auto, unfolding(rules::specs::Answers::answer, rules::specs::Refusals::unless, crate::specs::Refused::limit_refusal))]
+fn limit_refusal(limit: u8) -> Result<(), Refusal>
+    ensures { result ≡ checked (limit_refusal limit) }
 {
-    if limit == 0 {
-        return 21;
-    }
-    unless(limit <= 6, 21)
+    unless(matches!(limit, 1..=6), Refusal::NoLimit)
 }

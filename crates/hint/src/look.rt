@@ -10,7 +10,7 @@ ghost use Rattle.grid.specs.Lines.{cells_of, Sound};
 use grid::{cells_on, masks_by};
 use near::{Rows, more_than_one, rows_near, some_row};
 use referee::forbidden_strict_of;
-use rules::{Player, VerdictAnswer};
+use rules::Player;
 
 // The player's rows through a point.
 pub(crate) fn rows_for(lines: &[u16; 144], table: &[u16; 900], code: u8, player: Player) -> Rows
@@ -32,26 +32,13 @@ pub(crate) fn is_forbidden(lines: &[u16; 144], code: u8, player: Player, rows: R
         × RowsAre (λ kind. rows_through player kind (cells_of lines.now) code) rows }
     ensures { result ≡ (is_black player && not (is_none (strict_of (cells_of lines.now) code))) }
 {
-    if player.is_white() {
+    if player.is_white() || some_row(rows.fours) {
         return false;
     }
-    let fours = rows.fours;
-    if some_row(fours) {
-        return false;
-    }
-    let overlinings = rows.overlinings;
-    if some_row(overlinings) {
+    if some_row(rows.overlinings) || more_than_one(rows.swords) {
         return true;
     }
-    let swords = rows.swords;
-    if more_than_one(swords) {
-        return true;
-    }
-    let twos = rows.twos;
-    if more_than_one(twos) {
-        return is_kind_on(lines, code);
-    }
-    false
+    more_than_one(rows.twos) && is_kind_on(lines, code)
 }
 
 // Whether the strict verdict at a point is a kind. The cells of any lines are cells, so the question is never refused.
@@ -61,7 +48,7 @@ fn is_kind_on(lines: &[u16; 144], code: u8) -> bool
 {
     let cells = cells_on(lines);
     match forbidden_strict_of(&cells, code) {
-        VerdictAnswer::Is(verdict) => !verdict.is_none(),
-        VerdictAnswer::Refused(_) => false,
+        Ok(verdict) => !verdict.is_none(),
+        Err(_) => false,
     }
 }

@@ -34,6 +34,7 @@ pub(crate) fn plan_on(
         return 0;
     }
     let mut p = next_try(tries, lines, 0);
+    // stays: a walk from try to try, at uneven steps
     while p < 225 {
         let n = attack_on(lines, table, side, left, tries, out, at, p);
         if n != 0 {

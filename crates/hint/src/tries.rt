@@ -21,10 +21,8 @@ pub(crate) fn tries_of(lines: &[u16; 144], side: Player) -> [u16; 15]
     ensures { Covers side (cells_of lines.now) result }
 {
     let mut tries = [0u16; 15];
-    let mut key = 0u8;
-    while key < 72 {
+    for key in 0..72u8 {
         mark_line(&mut tries, lines, key, side);
-        key += 1;
     }
     tries
 }
@@ -41,10 +39,9 @@ pub(crate) fn tries_after(
     ensures { Kept tries result × MarkedThrough side (cells_of lines.now) code result }
 {
     let mut next = tries;
-    mark_along(&mut next, lines, table, 0, code, side);
-    mark_along(&mut next, lines, table, 1, code, side);
-    mark_along(&mut next, lines, table, 2, code, side);
-    mark_along(&mut next, lines, table, 3, code, side);
+    for d in 0..4u8 {
+        mark_along(&mut next, lines, table, d, code, side);
+    }
     next
 }
 
@@ -53,6 +50,7 @@ pub(crate) fn next_try(tries: &[u16; 15], lines: &[u16; 144], from: u8) -> u8
     ensures { NextTry tries.now (cells_of lines.now) from result }
 {
     let mut p = from;
+    // stays: a walk from column to column, at uneven steps
     while p < 225 {
         let y = p % 15;
         let x = (p / 15) as usize;
@@ -114,10 +112,8 @@ fn mark_cells(tries: &mut [u16; 15], key: u8, cells: u16)
     requires { length tries.old ≡ 15 }
     ensures { Kept tries.old tries.new × MarkedCells key 15 (bit cells) tries.new }
 {
-    let mut j = 0u8;
-    while j < 15 {
+    for j in 0..15u8 {
         mark_cell(tries, key, j, bit_at(cells, j));
-        j += 1;
     }
 }
 

@@ -3,63 +3,45 @@
 // `refused N` on standard error, and nothing on standard output.
 #![tactic(auto)]
 
-use display::{LengthAnswer, write_points};
+use display::write_points;
 use hint::win_plan_of;
 use lent::head;
 use program::{is_cut_short, is_word, read_full, refuse, say, text_room, word_count, write};
-use rules::CountAnswer;
+use rules::{Player, Refusal};
 use std::rt::Env;
 use text::read_cells;
 
-// What the arguments ask for; a colour of 0 is wrong usage.
+// What the arguments ask for: a side, to move, and how many attacks it may make.
 #[derive(Clone, Copy)]
 struct Asked {
-    colour: u8,
+    side: Player,
     limit: u8,
 }
 
 fn main(rt: HostRuntime) {
-    let asked = words_asked(&rt);
-    if asked.colour == 0 {
-        say(&rt, "usage: hints [--white] [--limit N]\n");
-        return;
+    match words_asked(&rt) {
+        Some(asked) => hint(&rt, asked),
+        None => say(&rt, "usage: hints [--white] [--limit N]\n"),
     }
-    hint(&rt, asked.colour, asked.limit);
 }
 
 // `--white`, then `--limit` and a number of one digit, each if it is there, and nothing else. The program's own name is counted too.
-fn words_asked<R: Env>(rt: &R) -> Asked {
+fn words_asked<R: Env>(rt: &R) -> Option<Asked> {
     let words = word_count(rt);
-    if words < 2 {
-        return Asked {
-            colour: 1,
-            limit: 6,
-        };
+    let white = words > 1 && is_word(rt, 1, b"--white");
+    let side = if white { Player::White } else { Player::Black };
+    // the number of the next word
+    let next = if white { 2 } else { 1 };
+    if words <= next {
+        return Some(Asked { side, limit: 6 });
     }
-    if is_word(rt, 1, b"--white") {
-        if words == 2 {
-            return Asked {
-                colour: 2,
-                limit: 6,
-            };
-        }
-        return limit_asked(rt, 2, words == 4, 2, 3);
+    if words == next + 2 && is_word(rt, next, b"--limit") {
+        return Some(Asked {
+            side,
+            limit: digit_word(rt, next + 1),
+        });
     }
-    limit_asked(rt, 1, words == 3, 1, 2)
-}
-
-// The limit of the two words that are left, if they are two.
-fn limit_asked<R: Env>(rt: &R, colour: u8, two: bool, first: usize, second: usize) -> Asked {
-    if two && is_word(rt, first, b"--limit") {
-        return Asked {
-            colour,
-            limit: digit_word(rt, second),
-        };
-    }
-    Asked {
-        colour: 0,
-        limit: 0,
-    }
+    None
 }
 
 // The number of a word of one digit; 0, which is no limit, for any other.
@@ -74,48 +56,41 @@ fn digit_word<R: Env>(rt: &R, number: usize) -> u8 {
 // .. of a byte, 0 where it is no digit.
 fn digit(byte: u8) -> u8 {
     match byte {
-        b'0'..=b'9' => byte - 48,
+        b'0'..=b'9' => byte - b'0',
         _ => 0,
     }
 }
 
-fn hint<R: Input + Print + Eprint>(rt: &R, colour: u8, limit: u8) {
+fn hint<R: Input + Print + Eprint>(rt: &R, asked: Asked) {
     let mut text = text_room();
     let n = read_full(rt, &mut text);
     if is_cut_short(rt, n, 4097) {
         say(rt, "hints: standard input cannot be read\n");
         return;
     }
-    let read = read_cells(head(&text, n));
-    if read.refused != 0 {
-        refuse(rt, read.refused);
-        return;
-    }
-    let cells = read.cells;
     let mut line = [0u8; 11];
-    match win_plan_of(&cells, colour, limit, &mut line) {
-        CountAnswer::Is(count) => {
-            write_line(rt, head(&line, count as usize));
-        }
-        CountAnswer::Refused(number) => {
-            refuse(rt, number);
-        }
+    match line_of(head(&text, n), asked, &mut line) {
+        Ok(count) => write_line(rt, head(&line, count as usize)),
+        Err(refusal) => refuse(rt, refusal),
     }
 }
 
+// The line for the board that a text says.
+fn line_of(text: &[u8], asked: Asked, line: &mut [u8]) -> Result<u16, Refusal> {
+    let cells = read_cells(text)?;
+    win_plan_of(&cells, asked.side.number(), asked.limit, line)
+}
+
 fn write_line<R: Print + Eprint>(rt: &R, codes: &[u8]) {
-    if codes.len() == 0 {
+    if codes.is_empty() {
         give(rt, b"no line\n");
         return;
     }
     let mut out = [0u8; 64];
-    match write_points(codes, &mut out) {
-        LengthAnswer::Is(n) => {
-            give(rt, head(&out, n));
-            give(rt, b"\n");
-        }
-        // 13, which does not arise: eleven points are at most 43 bytes
-        LengthAnswer::Refused(_) => {}
+    // 13, which does not arise: eleven points are at most 43 bytes
+    if let Ok(n) = write_points(codes, &mut out) {
+        give(rt, head(&out, n));
+        give(rt, b"\n");
     }
 }
 

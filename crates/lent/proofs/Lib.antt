@@ -3,3 +3,5 @@
 pub mod Laws
 -- the first byte that passes a test
 pub mod Found
+-- a list that is handed out with a count
+pub mod Handed

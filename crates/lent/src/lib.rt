@@ -4,5 +4,5 @@
 mod lists;
 mod slices;
 
-pub use lists::{keep, write_out};
+pub use lists::{Kept, hand_out, write_out};
 pub use slices::{find, head, tail};

@@ -1,58 +1,85 @@
 // A list is kept item by item in a local buffer, then written to a lent one, whole or refused.
-ghost use Rattle.std.specs.Prelude.{◌≡◌, ◌+◌, ◌≤◌, min, length, take};
-ghost use Rattle.std.proofs.lemmas.List.Edits.{sets};
-ghost use Rattle.lent.specs.Lists.{kept_to, kept_in, list_refusal, list_out};
+#![tactic(auto, unfolding(crate::specs::Lists::kept, crate::specs::Lists::list_refusal, crate::specs::Lists::list_out, crate::specs::Lists::fits, crate::specs::Lists::laid, rules::specs::Refusals::first, rules::specs::Refusals::unless, rules::specs::Answers::answer))]
 
-// An item kept at place n of a buffer, if on and if there is room; the next place.
-pub fn keep(buf: &mut [u8], n: usize, on: bool, item: &[u8]) -> usize
-    ensures { (result ≡ kept_to buf.old n on item.now)
-        × (buf.new ≡ kept_in buf.old n on item.now) }
-{
-    if !on {
-        return n;
-    }
-    // not `n + item.len() <= buf.len()`: that sum could wrap
-    if item.len() > buf.len() {
-        return n;
-    }
-    if n > buf.len() - item.len() {
-        return n;
-    }
-    copy_in(buf, n, item, item.len());
-    n + item.len()
+ghost use Rattle.std.specs.Prelude.{◌≡◌, ◌≤◌, List, [], ℕ, length, take};
+ghost use Rattle.rules.specs.Answers.{answer, checked};
+ghost use Rattle.lent.specs.Lists.{kept, list_refusal, list_out};
+
+use rules::Refusal;
+use std::marker::Model;
+
+// A list of bytes in a local buffer with room for N.
+#[derive(Drop)]
+pub struct Kept<const N: usize> {
+    bytes: [u8; N],
+    len: usize,
 }
 
-// The first n bytes of `from` written to the front of `out`, and 0; where the arguments were refused, that refusal, and 13 where they
-// do not fit: then nothing is written.
-pub fn write_out(refused: u8, out: &mut [u8], from: &[u8], n: usize) -> u8
-    ensures { (result ≡ list_refusal refused out.old (take n from.now))
-        × (out.new ≡ list_out refused out.old (take n from.now)) }
-{
-    if refused != 0 {
-        return refused;
-    }
-    let m = least(n, from.len());
-    if m > out.len() {
-        return 13;
-    }
-    copy_in(out, 0, from, m);
-    0
+// Clauses see the list.
+impl<const N: usize> Model for Kept<N> {
+    ghost Value = { List ℕ };
+
+    ghost view = { λ k. take k.len k.bytes };
+
+    ghost invariant = { λ k. k.len ≤ N };
 }
 
-fn least(a: usize, b: usize) -> usize
-    ensures { result ≡ min a b }
-{
-    if a < b { a } else { b }
+impl<const N: usize> Kept<N> {
+    pub fn new() -> Self
+        ensures { result ≡ [] }
+    {
+        Kept {
+            bytes: [0; N],
+            len: 0,
+        }
+    }
+
+    // An item put at the end; none where there is no room for all of it.
+    pub fn keep(&mut self, item: &[u8])
+        ensures { self.new ≡ kept N self.old item.now }
+    {
+        // not `self.len + item.len() <= N`: that sum could wrap
+        if item.len() > N - self.len {
+            return;
+        }
+        let end = self.len + item.len();
+        let room = &mut self.bytes[..];
+        room[self.len..end].copy_from_slice(item);
+        self.len = end;
+    }
+
+    pub fn len(&self) -> usize
+        ensures value { result ≡ length self.now }
+        ensures fits { result ≤ N }
+    {
+        self.len
+    }
+
+    pub fn as_slice(&self) -> &[u8]
+        ensures value { result.now ≡ self.now }
+        ensures fits { length result.now ≤ N }
+    {
+        &self.bytes[..self.len]
+    }
 }
 
-// The first n bytes of `from`, stored in `out` from place `at` on.
-fn copy_in(out: &mut [u8], at: usize, from: &[u8], n: usize)
-    requires { (n ≤ length from.now) × (at + n ≤ length out.old) }
-    ensures { out.new ≡ sets out.old at (take n from.now) }
+// A list written to the front of `out`; NoRoom where it does not fit, and nothing is written.
+pub fn write_out(list: &[u8], out: &mut [u8]) -> Result<(), Refusal>
+    ensures { (result ≡ checked (list_refusal 0 out.old list.now))
+        × (out.new ≡ list_out 0 out.old list.now) }
 {
-    let mut i = 0;
-    while i < n {
-        out[at + i] = from[i];
-        i += 1;
+    if list.len() > out.len() {
+        return Err(Refusal::NoRoom);
     }
+    out[..list.len()].copy_from_slice(list);
+    Ok(())
+}
+
+// .. and how many items it has.
+pub fn hand_out(list: &[u8], count: u16, out: &mut [u8]) -> Result<u16, Refusal>
+    ensures { (result ≡ answer (list_refusal 0 out.old list.now) count)
+        × (out.new ≡ list_out 0 out.old list.now) }
+{
+    write_out(list, out)?;
+    Ok(count)
 }

@@ -6,32 +6,24 @@ ghost use Rattle.lent.specs.Slices.{find_at};
 pub fn head(s: &[u8], n: usize) -> &[u8]
     ensures { result.now ≡ take n s.now }
 {
-    if n <= s.len() {
-        return &s[..n];
-    }
-    s
+    &s[..n.min(s.len())]
 }
 
 // What is behind the first n bytes.
 pub fn tail(s: &[u8], n: usize) -> &[u8]
     ensures { result.now ≡ drop n s.now }
 {
-    if n <= s.len() {
-        return &s[n..];
-    }
-    &s[..0]
+    &s[n.min(s.len())..]
 }
 
 // The place of the first d, or the length.
 pub fn find(s: &[u8], d: u8) -> usize
     ensures { result ≡ find_at d s.now }
 {
-    let mut i = 0;
-    while i < s.len() {
+    for i in 0..s.len() {
         if s[i] == d {
             return i;
         }
-        i += 1;
     }
-    i
+    s.len()
 }

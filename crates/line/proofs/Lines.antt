@@ -1,59 +1,38 @@
 -- Lines as values: their lists and masks. Assumes nothing.
-use mathlib.Core.Path.{◌≡◌, refl, ap, ap₂, ◌∙◌}
+use mathlib.Core.Path.{◌≡◌, refl, ap, ◌∙◌}
 use mathlib.Core.Bool.{Bool, true, false, not, ◌&&◌, ◌||◌, cond}
-use mathlib.Core.List.{List, [], ◌∷◌}
-use Prim.Native.Nat.{ℕ, ◌+◌, ◌-◌, ◌*◌, ◌^◌, ◌≤◌, ◌<◌}
+use mathlib.Core.List.{[], ◌∷◌}
+use Prim.Native.Nat.{ℕ, ◌+◌, ◌*◌, ◌^◌, ◌≤◌, ◌<◌}
 use native.Mathlib.Nat.{mul-one}
 use native.Mathlib.Omega.{arith}
 use lib.Dec.{T, eqb, leb, ltb, leb→le, le→leb}
 use lib.ListN.{length}
-use borrow.Author.Tests.{lt-leb, le-leb, lt-ltb, leb-true, eqb-true}
+use borrow.Author.Tests.{lt-ltb, leb-true, eqb-true}
 use Rattle.rules.specs.Numbers.{kind_of}
 use Rattle.rules.specs.Refusals.{unless}
 use Rattle.rules.specs.Tools.{all_below, gather, only}
 use Rattle.rules.specs.Bit.{bit, mask_of, count_of}
 use Rattle.rules.specs.Line.{Stones, inside, no_stone, sound_at, sound_line, sound_segment, segment_mask}
-use Rattle.rules.proofs.Logic.{and_right, or_right, same-leb, all-elim, all-intro}
+use Rattle.rules.proofs.Logic.{and_right, or_right, all-elim, all-intro}
 use Rattle.rules.proofs.Refusals.{first-none, none_first, passed, pass}
 use Rattle.rules.proofs.Lists.{gather_cong, gather-count}
 use Rattle.rules.proofs.Bits.{bit-none, bit_mask, mask-self, count-cong, count-mono}
 use Rattle.masks.specs.Masks.{placed}
-use Rattle.lent.specs.Lists.{list_refusal, list_out}
 use Rattle.rules.proofs.Windows.{row_inside}
 use Rattle.rules.proofs.Around.{segment, sound-around}
 use Rattle.lent.proofs.Laws.{gather-length, only-length}
 use Rattle.segment.specs.Segments.{mine, segment_refusal}
-use Rattle.rules.specs.Answers.{number_answer}
 use Rattle.line.specs.Lists.{bit_item, bit_list, window_item, window_list}
-use Rattle.rules.specs.declared.answer.NumberAnswer.{NumberAnswer}
 use Rattle.line.specs.declared.line.Line.{Line}
 use Rattle.line.specs.Lines.{blacks, whites, own, other, line_rows_at, empty_line, line_with, segment_of, size_refusal, line_refusal}
-use Rattle.line.specs.Lines.{windows_count, windows_out}
 
 -- a colour's stones are the mask of their cells
-pub own-mask : (colour a b : ℕ) → a < 2 ^ 16 → b < 2 ^ 16 → mine colour a b ≡ mask_of 16 (bit (mine colour a b))
-own-mask colour a b h k = go (eqb colour 1)
+pub own_mask : (colour a b : ℕ) → a < 2 ^ 16 → b < 2 ^ 16 → mine colour a b ≡ mask_of 16 (bit (mine colour a b))
+own_mask colour a b h k = go (eqb colour 1)
   where
     go : (t : Bool) → cond t a b ≡ mask_of 16 (bit (cond t a b))
     go true = mask-self 16 a h
     go false = mask-self 16 b k
-
--- ---- refusals
-pub size_small : (size : ℕ) → size < 5 → 10 ≡ size_refusal size
-unfolding size_refusal unless
-size_small size h = rw (lt-leb 5 size h)
-
-pub size-large : (size : ℕ) → 5 ≤ size → unless (leb size 15) 10 ≡ size_refusal size
-unfolding size_refusal
-size-large size h = rw (le-leb 5 size h)
-
-pub start_none : (size j : ℕ) → size < 5 → 10 ≡ unless (inside size j) 10
-unfolding unless inside
-start_none size j h = rw (lt-leb (j + 5) size (omega arith))
-
-pub start-some : (size j : ℕ) → 5 ≤ size → leb j (size - 5) ≡ inside size j
-unfolding inside
-start-some size j h = same-leb j (size - 5) (j + 5) size (λ a. omega arith) (λ a. omega arith)
 
 -- ---- the lists: at most one item for each number
 pub bits-short : (on : ℕ → Bool) (j : ℕ) → length (gather j (bit_item on)) ≤ j
@@ -94,33 +73,14 @@ rows_fit l colour kind h =
     (λ j t. le→leb (j + 5) l.size (row_inside (eqb colour 1) l.size (own l colour) (other l colour) (kind_of kind) j t))
 
 -- what is asked of a mask's starts is what is asked of the test that the mask is of
-windows-of : (blacks whites : Stones) (f : ℕ → Bool) → window_list blacks whites (bit (mask_of 16 f)) ≡ window_list blacks whites f
+pub windows_of : (blacks whites : Stones) (f : ℕ → Bool) → window_list blacks whites (bit (mask_of 16 f)) ≡ window_list blacks whites f
 unfolding window_list
-windows-of blacks whites f =
+windows_of blacks whites f =
     gather_cong 16 (window_item blacks whites (bit (mask_of 16 f))) (window_item blacks whites f)
     (λ j h. ap (λ (b : Bool). only b (j ∷ segment_mask blacks j ∷ segment_mask whites j ∷ [])) (bit_mask 16 f j h))
 
-pub count-of : (l : Line) (refused : ℕ) (f : ℕ → Bool) (out : List ℕ)
-    → windows_count l refused (bit (mask_of 16 f)) out ≡ windows_count l refused f out
-unfolding windows_count
-count-of l refused f out =
-    ap₂ (λ (a : List ℕ) (n : ℕ). number_answer (list_refusal refused out a) n) (windows-of (blacks l) (whites l) f)
-    (count-cong 16 (bit (mask_of 16 f)) f (bit_mask 16 f))
-
-pub out_of : (l : Line) (refused : ℕ) (f : ℕ → Bool) (out : List ℕ)
-    → windows_out l refused (bit (mask_of 16 f)) out ≡ windows_out l refused f out
-unfolding windows_out
-out_of l refused f out = ap (list_out refused out) (windows-of (blacks l) (whites l) f)
-
--- a function that lists by a mask of starts: its refusal and its mask, put into what `list` gave
-pub windows-listed : (l : Line) (refused refused' : ℕ) (f : ℕ → Bool) (starts : ℕ) (out : List ℕ) (r : NumberAnswer) (out' : List ℕ)
-    → refused ≡ refused' → starts ≡ mask_of 16 f
-    → (r ≡ windows_count l refused (bit starts) out) × (out' ≡ windows_out l refused (bit starts) out)
-    → (r ≡ windows_count l refused' f out) × (out' ≡ windows_out l refused' f out)
-windows-listed l refused refused' f starts out r out' e q h = (
-  h.0 ∙ ap₂ (λ (n m : ℕ). windows_count l n (bit m) out) e q ∙ count-of l refused' f out,
-  h.1 ∙ ap₂ (λ (n m : ℕ). windows_out l n (bit m) out) e q ∙ out_of l refused' f out,
-)
+pub counted_of : (f : ℕ → Bool) → count_of 16 (bit (mask_of 16 f)) ≡ count_of 16 f
+counted_of f = count-cong 16 (bit (mask_of 16 f)) f (bit_mask 16 f)
 
 -- ---- a line that is handed back is sound
 

@@ -12,17 +12,16 @@ use Rattle.rules.specs.declared.RowKind.{RowKind}
 use Rattle.rules.specs.declared.RowKind.TheVariants.{Two, Three, Straight, Sword, Four, Five, Overlining, Overlined}
 use Rattle.rules.proofs.Around.{segment, scores-around, holds-around, last-around}
 use Rattle.segment.specs.declared.segment.Segment.{Segment}
-use Rattle.segment.specs.declared.row.Before.{Before}
-use Rattle.segment.specs.declared.row.Before.TheVariants.{Is, None}
+use Rattle.std.specs.Prelude.{Option, Some, None}
 use Rattle.segment.specs.Segments.{segment_own, segment_other}
 use Rattle.segment.specs.Rows.{segment_scores, segment_holds, passes_before, open_of, over_of, match_of}
 use Rattle.line.specs.declared.line.Line.{Line}
 use Rattle.line.specs.Lines as line
 
 -- the segment before that of the window at j, if there is one
-abbrev pub before_of : Line → ℕ → Before
+abbrev pub before_of : Line → ℕ → Option Segment
 before_of l zero = None
-before_of l (suc i) = Is (line.segment_of l i)
+before_of l (suc i) = Some (line.segment_of l i)
 
 -- a colour's stones in a segment are the segment of its stones
 picked : (b : Bool) (x y j : ℕ) → bit (cond b (mask_of 7 (around (bit x) j)) (mask_of 7 (around (bit y) j))) ≡ segment (bit (cond b x y)) j

@@ -1,4 +1,3 @@
--- What the contracts of `line` cite beside the rules: the answers, the lists, and lines as values.
-pub mod Answers
+-- What the contracts of `line` cite beside the rules: the lists, and lines as values.
 pub mod Lists
 pub mod Lines

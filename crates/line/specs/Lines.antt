@@ -1,13 +1,13 @@
 -- Lines as values: what section 4 says of a line alone, with the refusals of section 2.
-use Rattle.std.specs.Prelude.{Bool, ◌&&◌, List, ℕ, eqb, leb, ltb}
+use Rattle.std.specs.Prelude.{Bool, ◌&&◌, List, ℕ, eqb, leb, ltb, Result}
 use Rattle.rules.specs.Numbers.{kind_of}
 use Rattle.rules.specs.Refusals.{unsound, no_place, unless, first, colour_refusal, kind_refusal}
 use Rattle.rules.specs.Bit.{bit, mask_of, count_of}
 use Rattle.rules.specs.Line.{Stones, inside, read_number, scores, holds, open_at, row_at, through, sound_line, segment_mask}
 use Rattle.masks.specs.Masks.{placed}
 use Rattle.lent.specs.Lists.{list_refusal, list_out}
-use Rattle.rules.specs.declared.answer.NumberAnswer.{NumberAnswer}
-use Rattle.rules.specs.Answers.{number_answer}
+use Rattle.rules.specs.declared.refusal.Refusal.{Refusal}
+use Rattle.rules.specs.Answers.{answer}
 use Rattle.line.specs.Lists.{window_list}
 use Rattle.segment.specs.declared.segment.Segment.{Segment}
 use Rattle.line.specs.declared.line.Line.{Line}
@@ -92,8 +92,8 @@ line_rows_on l i colour kind j = line_rows_at l colour kind j && through (kind_o
 -- ---- the starts that pass a test, with their segments, asked for into a lent buffer
 
 -- how many there are, or the refusal
-unfoldable pub windows_count : Line → ℕ → (ℕ → Bool) → List ℕ → NumberAnswer
-windows_count l refused starts out = number_answer (list_refusal refused out (window_list (blacks l) (whites l) starts)) (count_of 16 starts)
+unfoldable pub windows_count : Line → ℕ → (ℕ → Bool) → List ℕ → Result ℕ Refusal
+windows_count l refused starts out = answer (list_refusal refused out (window_list (blacks l) (whites l) starts)) (count_of 16 starts)
 
 -- the buffer after it
 unfoldable pub windows_out : Line → ℕ → (ℕ → Bool) → List ℕ → List ℕ

@@ -2,7 +2,6 @@
 // the refusal.
 #![tactic(auto)]
 
-use display::LengthAnswer;
 use lent::head;
 use program::{is_cut_short, read_full, say, text_room, write};
 use report::write_listing;
@@ -19,15 +18,12 @@ fn main(rt: HostRuntime) {
 
 fn list<R: Print + Eprint>(rt: &R, text: &[u8]) {
     let mut out = [0u8; 4096];
-    match write_listing(text, &mut out) {
-        LengthAnswer::Is(n) => {
-            write(
-                rt,
-                head(&out, n),
-                "listing: standard output cannot be written\n",
-            );
-        }
-        // 13, which does not arise: no listing is longer than 3,840 bytes
-        LengthAnswer::Refused(_) => {}
+    // a refusal, 13, does not arise: no listing is longer than 3,840 bytes
+    if let Ok(n) = write_listing(text, &mut out) {
+        write(
+            rt,
+            head(&out, n),
+            "listing: standard output cannot be written\n",
+        );
     }
 }

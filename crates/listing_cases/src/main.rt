@@ -4,7 +4,6 @@
 
 ghost use Rattle.std.specs.Prelude.{◌≡◌, ◌<◌, length};
 
-use display::LengthAnswer;
 use lent::{head, tail};
 use records::{byte_at, line_at, next_line, read_records, say};
 use report::write_listing;
@@ -24,6 +23,7 @@ fn room() -> [u8; 65536]
 
 fn list_cases<R: Print>(rt: &R, cases: &[u8]) {
     let mut at = 0;
+    // stays: a turn passes a case, of any length
     while at < cases.len() {
         let end = case_end(cases, at);
         say(rt, line_at(cases, at));
@@ -39,6 +39,7 @@ fn case_end(cases: &[u8], at: usize) -> usize
     ensures { at < result }
 {
     let mut i = next_line(cases, at);
+    // stays: a turn passes a line, of any length
     while i < cases.len() {
         if is_name(cases, i) {
             return i;
@@ -49,22 +50,14 @@ fn case_end(cases: &[u8], at: usize) -> usize
 }
 
 fn is_name(cases: &[u8], at: usize) -> bool {
-    if byte_at(cases, at) == b'=' {
-        byte_at(tail(cases, at), 1) == b'='
-    } else {
-        false
-    }
+    byte_at(cases, at) == b'=' && byte_at(tail(cases, at), 1) == b'='
 }
 
 fn list<R: Print>(rt: &R, text: &[u8]) {
     let mut out = [0u8; 4096];
     match write_listing(text, &mut out) {
-        LengthAnswer::Is(n) => {
-            say(rt, head(&out, n));
-        }
+        Ok(n) => say(rt, head(&out, n)),
         // 13, which does not arise: no listing is longer than 3,840 bytes
-        LengthAnswer::Refused(_) => {
-            say(rt, b"too long\n");
-        }
+        Err(_) => say(rt, b"too long\n"),
     }
 }

@@ -1,10 +1,13 @@
 -- What no refusal says of those who ask for a list, and that the cells of a board are asked as it is. Assumes nothing.
-use mathlib.Core.Path.{◌≡◌, ap, ap₂, sym, ◌∙◌}
+use mathlib.Core.Path.{◌≡◌, refl, ap, ap₂, sym, ◌∙◌}
+use mathlib.Core.Bool.{Bool, true, false, cond}
 use mathlib.Core.List.{List}
 use Prim.Native.Nat.{ℕ}
-use borrow.Author.Tests.{ne_eqb}
+use lib.Dec.{eqb}
+use Rattle.std.specs.Prelude.{Result, Ok, Err}
 use Rattle.rules.specs.Refusals.{first, code_refusal, colour_refusal, kind_refusal, distance_refusal}
-use Rattle.rules.specs.declared.answer.CountAnswer.{CountAnswer}
+use Rattle.rules.specs.Answers.{answer, checked}
+use Rattle.rules.specs.declared.refusal.Refusal.{Refusal}
 use Rattle.rules.proofs.Refusals.{first-none}
 use Rattle.lent.specs.Lists.{list_out, counted}
 use Rattle.cells.specs.Cells.{cells_refusal, cells_refusal_at, cells_stones_refusal, cells_neighbours_refusal}
@@ -16,6 +19,15 @@ use Rattle.board.specs.Boards.{cells, board_refusal, refusal_at}
 use Rattle.board.proofs.Given.{sound-in}
 use Rattle.lists.specs.Lists.{stones_refusal, neighbours_refusal, rows_refusal}
 
+-- the first of two refusals stands before the second
+first-refused : (n m : ℕ) {x : Refusal} → checked n ≡ Err x → checked (first n m) ≡ Err x
+unfolding answer first
+first-refused n m {x} e = go (eqb n 0) refl
+  where
+    go : (t : Bool) → eqb n 0 ≡ t → checked (cond (eqb n 0) m n) ≡ Err x
+    go true q = let z : Ok tt ≡ Err x = rw q at e in cc
+    go false q = rw (q, q) (rw q at e)
+
 module _ (b : Board) where
   pub rows-open : (colour kind : ℕ) → rows_refusal b colour kind ≡ 0 → Sound b.lines
   unfolding rows_refusal stones_refusal
@@ -25,20 +37,14 @@ module _ (b : Board) where
   -- ---- a question that is handed on to the cells of a board
 
   -- the board is refused first, whatever else is asked
-  module _ (refused : ℕ) (e : refused ≡ board_refusal b) (n : refused ≡ 0 → ⊥) where
-    turned : (x : ℕ) → refused ≡ first (board_refusal b) x
-    unfolding first
-    turned x = e ∙ sym (rw (ne_eqb (board_refusal b) 0 (λ z. n (e ∙ z))))
-
-    pub stones-turned : (colour : ℕ) → refused ≡ stones_refusal b colour
+  module _ {x : Refusal} (e : checked (board_refusal b) ≡ Err x) where
+    pub stones-turned : (colour : ℕ) → checked (stones_refusal b colour) ≡ Err x
     unfolding stones_refusal
-    stones-turned colour = turned (colour_refusal colour)
+    stones-turned colour = first-refused (board_refusal b) (colour_refusal colour) e
 
-    pub near-turned : (p d : ℕ) → refused ≡ neighbours_refusal b p d
-    unfolding neighbours_refusal refusal_at first
-    near-turned p d =
-        let z = ne_eqb (board_refusal b) 0 (λ z. n (e ∙ z)) in
-        e ∙ sym (rw (z, z))
+    pub near-turned : (p d : ℕ) → checked (neighbours_refusal b p d) ≡ Err x
+    unfolding neighbours_refusal refusal_at
+    near-turned p d = first-refused (refusal_at b p) (distance_refusal d) (first-refused (board_refusal b) (code_refusal p) e)
 
   -- else its cells are refused as it is
   module _ (e : board_refusal b ≡ 0) where
@@ -54,7 +60,7 @@ module _ (b : Board) where
     near-asked p d = ap (λ (n : ℕ). first (first n (code_refusal p)) (distance_refusal d)) cells-asked
 
 -- a list that was asked for, by what the refusal and the list mean
-pub asked-list : (out : List ℕ) {asked told : ℕ} {a list : List ℕ} → asked ≡ told → a ≡ list → {r : CountAnswer} {out' : List ℕ}
+pub asked-list : (out : List ℕ) {asked told : ℕ} {a list : List ℕ} → asked ≡ told → a ≡ list → {r : Result ℕ Refusal} {out' : List ℕ}
     → (r ≡ counted 1 asked out a) × (out' ≡ list_out asked out a) → (r ≡ counted 1 told out list) × (out' ≡ list_out told out list)
 asked-list out e l k = (
   k.0 ∙ ap₂ (λ (n : ℕ) (x : List ℕ). counted 1 n out x) e l,

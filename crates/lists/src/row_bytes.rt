@@ -1,84 +1,56 @@
 // Rows collected line by line, four bytes each: key, start, stones mask, eyes mask.
-ghost use Rattle.std.specs.Prelude.{◌≡◌, ◌+◌, ◌≤◌, ◌<◌, length};
+ghost use Rattle.std.specs.Prelude.{◌≡◌, ◌++◌, ◌+◌, ◌≤◌, ◌<◌, length};
 ghost use Rattle.rules.specs.Bit.{bit};
 ghost use Rattle.rules.specs.Line.{stones_mask};
 ghost use Rattle.rules.specs.Grid.{rows_of, rows_on_point, key_rows, rows_in};
-ghost use Rattle.lent.specs.Lists.{Wrote, Held};
 ghost use Rattle.point.specs.Places.{addresses};
 ghost use Rattle.grid.specs.Lines.{cells_of, Sound};
 ghost use Rattle.lists.specs.Lists.{row_list};
 
 use grid::{mask_on, starts_at};
-use lent::keep;
+use lent::Kept;
 use masks;
 use masks::bit_at;
 use point::{address_by, addresses, key_size};
 use rules::{Player, RowKind};
 
-// All rows of a board, with how many bytes they are: at most 15 starts on each of 72 lines.
-#[derive(Clone, Copy)]
-pub(crate) struct Rows {
-    pub(crate) bytes: [u8; 4320],
-    pub(crate) len: usize,
-}
-
-// The rows through a point: at most 15 starts on each of four lines.
-#[derive(Clone, Copy)]
-pub(crate) struct RowsOn {
-    pub(crate) bytes: [u8; 240],
-    pub(crate) len: usize,
-}
-
-// The player's rows of the kind, by key, then start.
-pub(crate) fn all_rows(lines: &[u16; 144], player: Player, kind: RowKind) -> Rows
+// The player's rows of the kind, by key, then start: at most 15 starts on each of 72 lines.
+pub(crate) fn all_rows(lines: &[u16; 144], player: Player, kind: RowKind) -> Kept<4320>
     requires { Sound lines.now }
-    ensures { Held 4320 (rows_of player kind (cells_of lines.now)) result.bytes result.len }
+    ensures { result ≡ rows_of player kind (cells_of lines.now) }
 {
-    let mut bytes = [0u8; 4320];
-    let mut n = 0usize;
-    let mut key = 0u8;
-    while key < 72 {
-        n = keep_key(lines, key, player, kind, &mut bytes, n);
-        key += 1;
+    let mut list = Kept::new();
+    for key in 0..72u8 {
+        keep_key(lines, key, player, kind, &mut list);
     }
-    Rows { bytes, len: n }
+    list
 }
 
-// Those of the line of a key, kept from place n on; the next place.
-fn keep_key(
-    lines: &[u16; 144],
-    key: u8,
-    player: Player,
-    kind: RowKind,
-    buf: &mut [u8],
-    n: usize,
-) -> usize
-    requires { Sound lines.now × (key < 72) × (n + 60 ≤ length buf.old) }
-    ensures { Wrote buf.old n (key_rows player kind (cells_of lines.now) key) buf.new result }
+// Those of the line of a key.
+fn keep_key(lines: &[u16; 144], key: u8, player: Player, kind: RowKind, list: &mut Kept<4320>)
+    requires { Sound lines.now × (key < 72) × (length list.old + 60 ≤ 4320) }
+    ensures { list.new ≡ list.old ++ key_rows player kind (cells_of lines.now) key }
 {
     let my = mask_on(lines, key, player);
     let op = mask_on(lines, key, player.opponent());
     let starts = masks::row_starts(my, op, key_size(key), player.is_black(), kind);
-    keep_rows(key, my, op, kind, starts, buf, n)
+    keep_rows(key, my, op, kind, starts, list);
 }
 
-// The player's rows of the kind through a point, line by line.
-pub(crate) fn rows_through(lines: &[u16; 144], code: u8, player: Player, kind: RowKind) -> RowsOn
+// The player's rows of the kind through a point, line by line: at most 15 starts on each of four lines.
+pub(crate) fn rows_through(lines: &[u16; 144], code: u8, player: Player, kind: RowKind) -> Kept<240>
     requires { Sound lines.now × (code < 225) }
-    ensures { Held 240 (rows_on_point player kind (cells_of lines.now) code) result.bytes result.len }
+    ensures { result ≡ rows_on_point player kind (cells_of lines.now) code }
 {
     let table = addresses();
-    let mut bytes = [0u8; 240];
-    let mut n = 0usize;
-    let mut d = 0u8;
-    while d < 4 {
-        n = keep_rows_along(lines, &table, d, code, player, kind, &mut bytes, n);
-        d += 1;
+    let mut list = Kept::new();
+    for d in 0..4u8 {
+        keep_rows_along(lines, &table, d, code, player, kind, &mut list);
     }
-    RowsOn { bytes, len: n }
+    list
 }
 
-// Those on the line in one direction, kept from place n on; the next place.
+// Those on the line in one direction.
 fn keep_rows_along(
     lines: &[u16; 144],
     table: &[u16; 900],
@@ -86,47 +58,41 @@ fn keep_rows_along(
     code: u8,
     player: Player,
     kind: RowKind,
-    buf: &mut [u8],
-    n: usize,
-) -> usize
-    requires { Sound lines.now × (code < 225) × (d < 4) × (n + 60 ≤ length buf.old) × (table.now ≡ addresses) }
-    ensures { Wrote buf.old n (rows_in player kind (cells_of lines.now) code d) buf.new result }
+    list: &mut Kept<240>,
+)
+    requires { Sound lines.now × (code < 225) × (d < 4) × (length list.old + 60 ≤ 240) × (table.now ≡ addresses) }
+    ensures { list.new ≡ list.old ++ rows_in player kind (cells_of lines.now) code d }
 {
     let a = address_by(table, d, code);
     if a.stored {
         let my = mask_on(lines, a.key, player);
         let op = mask_on(lines, a.key, player.opponent());
         let starts = starts_at(lines, a, player, kind);
-        return keep_rows(a.key, my, op, kind, starts, buf, n);
+        keep_rows(a.key, my, op, kind, starts, list);
     }
-    n
 }
 
-// The rows of one line that start where `starts` says, kept from place n on; the next place.
-fn keep_rows(
+// The rows of one line that start where `starts` says.
+fn keep_rows<const N: usize>(
     key: u8,
     my: u16,
     op: u16,
     kind: RowKind,
     starts: u16,
-    buf: &mut [u8],
-    n: usize,
-) -> usize
-    requires { (key < 72) × (n + 60 ≤ length buf.old) }
-    ensures { Wrote buf.old n (row_list key (bit my) (bit op) kind (bit starts)) buf.new result }
+    list: &mut Kept<N>,
+)
+    requires { (key < 72) × (length list.old + 60 ≤ N) }
+    ensures { list.new ≡ list.old ++ row_list key (bit my) (bit op) kind (bit starts) }
 {
     let size = key_size(key);
     let empty = masks::empty_cells(my, op, size);
-    let mut m = n;
-    let mut j = 0u8;
-    while j < size {
-        let on = bit_at(starts, j);
-        let stones = five_from(my, j);
-        let eyes = five_from(empty, j) & kind.eye_cells();
-        m = keep(buf, m, on, &[key, j, stones, eyes]);
-        j += 1;
+    for j in 0..size {
+        if bit_at(starts, j) {
+            let stones = five_from(my, j);
+            let eyes = five_from(empty, j) & kind.eye_cells();
+            list.keep(&[key, j, stones, eyes]);
+        }
     }
-    m
 }
 
 // The five bits of a mask from bit j on.

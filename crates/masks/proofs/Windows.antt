@@ -142,13 +142,9 @@ pub from-none : (i : ℕ) → 16 ≤ i → 0 ≡ mask_of 16 (λ j. leb i j)
 from-none i h = mask-ext 16 0 _ (lit< tt) (λ j k. bit-none j ∙ sym (lt-leb i j (omega arith)))
 
 -- ---- the windows on the line
-pub starts_none : (size : ℕ) → size < 5 → 0 ≡ mask_of 16 (inside size)
+pub starts-on : (size j : ℕ) → ltb j (size - 4) ≡ inside size j
 unfolding inside
-starts_none size h = mask-ext 16 0 _ (lit< tt) (λ j k. bit-none j ∙ sym (lt-leb (j + 5) size (omega arith)))
-
-pub starts-some : (size j : ℕ) → 5 ≤ size → ltb j (size - 4) ≡ inside size j
-unfolding inside
-starts-some size j h = same-leb (suc j) (size - 4) (j + 5) size (λ a. omega arith) (λ a. omega arith)
+starts-on size j = same-leb (suc j) (size - 4) (j + 5) size (λ a. omega arith) (λ a. omega arith)
 
 -- ---- a window's five cells, and an equation between two functions of them by a computed test
 abbrev window : (Bool → Bool → Bool → Bool → Bool → Bool) → ℕ → ℕ → Bool

@@ -8,7 +8,7 @@ ghost use Rattle.masks.specs.Masks.{placed};
 pub fn bit_at(m: u16, i: u8) -> bool
     ensures { result ≡ bit m i }
 {
-    if i < 16 { m >> i & 1 == 1 } else { false }
+    i < 16 && m >> i & 1 == 1
 }
 
 // A mask with bit i as `on` says. A bit over 15 changes nothing.

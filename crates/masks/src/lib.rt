@@ -20,7 +20,7 @@ use rules::RowKind;
 pub fn starts(size: u8) -> u16
     ensures { result ≡ mask_of 16 (inside size) }
 {
-    if size < 5 { 0 } else { bits_below(size - 4) }
+    bits_below(size.saturating_sub(4))
 }
 
 // The windows with no stone of the other colour.
@@ -31,7 +31,7 @@ fn free_mask(op: u16) -> u16
 }
 
 // How many of five masks have each bit, as three masks for the binary digits 1, 2 and 4.
-#[derive(Clone, Copy)]
+#[derive(Clone, Copy, Debug, PartialEq, Eq)]
 pub struct Digits {
     pub ones: u16,
     pub twos: u16,
@@ -135,8 +135,7 @@ fn reach(kind: RowKind) -> u8
 fn first_through(kind: RowKind, i: u8) -> u8
     ensures { result ≡ i - (span kind - 1) }
 {
-    let back = reach(kind);
-    if i < back { 0 } else { i - back }
+    i.saturating_sub(reach(kind))
 }
 
 // The starts `first` to `last`.
@@ -177,10 +176,8 @@ fn spread(starts: u16, cells: u8) -> u16
     ensures { result ≡ mask_of 16 (spread_at (bit starts) (bit cells)) }
 {
     let mut acc = 0u16;
-    let mut k = 0u8;
-    while k < 8 {
-        acc = moved(starts, cells, k) | acc;
-        k += 1;
+    for k in 0..8u8 {
+        acc |= moved(starts, cells, k);
     }
     acc
 }

@@ -5,7 +5,6 @@
 use lent::head;
 use mending::write_mended;
 use program::{is_cut_short, read_full, refuse_on_output, say, text_room, write};
-use rules::CountAnswer;
 
 fn main(rt: HostRuntime) {
     let mut text = text_room();
@@ -21,15 +20,11 @@ fn main(rt: HostRuntime) {
 fn mend<R: Print + Eprint>(rt: &R, text: &[u8]) {
     let mut out = [0u8; 1152];
     match write_mended(text, &mut out) {
-        CountAnswer::Is(n) => {
-            write(
-                rt,
-                head(&out, n as usize),
-                "mend: standard output cannot be written\n",
-            );
-        }
-        CountAnswer::Refused(number) => {
-            refuse_on_output(rt, number);
-        }
+        Ok(n) => write(
+            rt,
+            head(&out, n as usize),
+            "mend: standard output cannot be written\n",
+        ),
+        Err(refusal) => refuse_on_output(rt, refusal),
     }
 }

@@ -1,34 +1,34 @@
 -- The moves that are kept, item by item, are those that were read before the first repeat; the reason and the number of the item that slips.
 -- Assumes nothing.
 use mathlib.Core.Path.{◌≡◌, refl, sym, ap, ap₂, ◌∙◌}
-use mathlib.Core.Bool.{true, false, cond}
+use mathlib.Core.Bool.{Bool, true, false, ◌&&◌, cond}
 use mathlib.Core.Logic.{◌⊎◌, inl, inr}
 use mathlib.Core.List.{List, [], ◌∷◌, ◌++◌}
 use Prim.Native.Nat.{ℕ, suc, ◌+◌, ◌≤◌, ◌<◌}
 use native.Mathlib.Nat.{zero-add}
 use native.Mathlib.Omega.{arith}
-use lib.Dec.{eqb, ltb}
+use lib.Dec.{eqb, leb, ltb}
 use native.Mathlib.Numerals.{add-one}
 use lib.ListN.{length, get_or, take, drop, length-append, length-drop}
 use lib.Seq.{take_at, take_all, take-suc, drop-cons, length-take-le}
-use borrow.Author.Tests.{eqb-true, eq-eqb, ne_eqb, lt-ltb, le-ltb}
-use Rattle.rules.specs.Refusals.{unless, first}
+use borrow.Author.Tests.{eqb-true, lt-ltb, le-ltb}
+use Rattle.std.specs.Prelude.{Option, Some, None}
+use Rattle.std.specs.Option.{option_map}
+use Rattle.rules.specs.Refusals.{no_column, no_row, unless, first}
 use Rattle.rules.proofs.Logic.{decide}
-use Rattle.lent.specs.Lists.{zeros, kept_to, kept_in}
-use Rattle.lent.specs.Slices.{find_at}
-use Rattle.lent.proofs.Laws.{length-zeros, take-padded, wrote-held}
 use Rattle.cells.specs.Cells.{codes_refusal}
-use Rattle.text.specs.Bytes.{comma, trim, has, parts, text_refusal}
-use Rattle.text.specs.Points.{item_refusal, item_code, items_refusal, leading_codes, points_refusal, leading_in, slip_in}
-use Rattle.text.specs.Points.{leading_answer, list_found, leading_found}
+use Rattle.text.specs.Bytes.{comma, trim, has, parts}
+use Rattle.text.specs.Points.{column_in, row_in, place_refusal, item_refusal, item_code, items_refusal, leading_codes, points_refusal}
+use Rattle.text.specs.Points.{leading_in, slip_in, slip_at, list_found}
 use Rattle.text.specs.declared.points.Leading.{Leading}
-use Rattle.text.proofs.Places.{has-yes, has_no}
+use Rattle.text.specs.declared.points.Slip.{Slip}
 use Rattle.text.proofs.Said.{item-small}
 use Rattle.display.proofs.PointBack.{Points}
-use Rattle.display.proofs.Writing.{put}
-use Rattle.mending.specs.Mending.{slip_of, kept_from, reason_from, number_of_slip, kept_of, reason_of, once_from, once_of}
-use Rattle.mending.specs.Mending.{two_lines, mended_text, mended_answer, mended_found}
+use Rattle.mending.specs.Mending.{repeated, slip_of, kept_from, reason_from, number_of_slip, kept_of, reason_of, once_from, once_of}
+use Rattle.mending.specs.Mending.{reason_named, unread, slip_behind, slip_item, slip_reason, two_lines, mended_text, mended_with, mended_found}
 use Rattle.mending.specs.declared.kept.Mended.{Mended}
+use Rattle.mending.specs.declared.kept.Reason.{Reason}
+use Rattle.mending.specs.declared.kept.Reason.TheVariants.{Repeated}
 use Rattle.mending.proofs.Once.{Once, once-kept, once-points, once-front, once-short, points-pass}
 
 -- ---- item by item and code by code
@@ -108,25 +108,64 @@ module _ (s : List ℕ) where
   pub kept-short : length (kept_of s) ≤ 225
   kept-short = once-short (kept_of s) kept-none-twice kept-points
 
+-- ---- what the reader refuses of a list is the letter or the number of one of its points
+
+Read : ℕ → Type 0
+Read n = (n ≡ 0) ⊎ ((n ≡ no_column) ⊎ (n ≡ no_row))
+
+place-read : (x n : ℕ) → Read (place_refusal x n)
+unfolding place_refusal first unless Read
+place-read x n = go (ltb x 15) (leb 1 n && leb n 15)
+  where
+    go : (a b : Bool) → Read (first (unless a no_column) (unless b no_row))
+    go true true = inl refl
+    go true false = inr (inr refl)
+    go false b = inr (inl refl)
+
+items-read : (items : List (List ℕ)) → Read (items_refusal items)
+unfolding items_refusal item_refusal first Read
+items-read [] = inl refl
+items-read (item ∷ items) = go (place-read (column_in item) (row_in item)) (items-read items)
+  where
+    go : Read (item_refusal item) → Read (items_refusal items) → Read (first (item_refusal item) (items_refusal items))
+    go (inl z) r = rw z r
+    go (inr (inl z)) r = rw z (inr (inl refl))
+    go (inr (inr z)) r = rw z (inr (inr refl))
+
+-- so an item's reason is 1 for a repeat, or one of these; 0 where none slips
+Reasoned : ℕ → Type 0
+Reasoned n = (n ≡ repeated) ⊎ Read n
+
+reasoned : (s : List ℕ) → Reasoned (reason_of s)
+unfolding points_refusal Reasoned
+reasoned s = rw (why-slip s) (go (ltb (length (once_of (leading_in s))) (length (leading_in s))))
+  where
+    go : (t : Bool) → Reasoned (cond t 1 (items_refusal (parts comma (trim s))))
+    go true = inl refl
+    go false = inr (items-read (parts comma (trim s)))
+
+-- the reader's refusal named is the reason of its number
+unread-named : (n i : ℕ) → Read n → unread (option_map (λ (w : Slip). w.refusal) (slip_at n i)) ≡ reason_named n
+unfolding slip_at reason_named Read
+unread-named n i (inl z) = rw z
+unread-named n i (inr (inl z)) = rw z
+unread-named n i (inr (inr z)) = rw z
+
+-- the numbers of the item that slips
+slip-numbers : (kept : List ℕ) (n : ℕ) → Reasoned n
+    → (slip_item (slip_behind kept (reason_named n)) ≡ number_of_slip kept n) × (slip_reason (slip_behind kept (reason_named n)) ≡ n)
+unfolding reason_named number_of_slip Reasoned Read
+slip-numbers kept n (inl z) = rw z (refl, refl)
+slip-numbers kept n (inr (inl z)) = rw z (refl, refl)
+slip-numbers kept n (inr (inr (inl z))) = rw z (refl, refl)
+slip-numbers kept n (inr (inr (inr z))) = rw z (refl, refl)
+
 -- ---- as the code finds it: n codes of those that were read stand before the first repeat
 
-module _ (s : List ℕ) (r : Leading) (n : ℕ) (moves : List ℕ) (none : text_refusal s ≡ 0) (e : r ≡ leading_found s)
-    (em : moves ≡ take r.len r.codes) (en : n ≡ length (once_of moves)) where
-  found : r ≡ leading_answer (points_refusal s) (slip_in s) (leading_in s)
-  unfolding leading_found list_found
-  found = e ∙ rw (eq-eqb (text_refusal s) 0 none)
-
-  len_is : r.len ≡ length (leading_in s)
-  unfolding leading_answer
-  len_is = ap (λ (l : Leading). l.len) found
-
+module _ (s : List ℕ) (r : Leading) (n : ℕ) (moves : List ℕ) (e : r ≡ list_found s) (em : moves ≡ r.codes) (en : n ≡ length (once_of moves)) where
   moves-are : moves ≡ leading_in s
-  unfolding leading_answer
-  moves-are = em ∙ ap₂ take len_is (ap (λ (l : Leading). l.codes) found) ∙ take-padded 4097 (leading_in s)
-
-  refused-is : r.refused ≡ points_refusal s
-  unfolding leading_answer
-  refused-is = ap (λ (l : Leading). l.refused) found
+  unfolding list_found
+  moves-are = em ∙ ap (λ (l : Leading). l.codes) e
 
   n-is : n ≡ length (kept_of s)
   n-is = en ∙ ap (λ (l : List ℕ). length (once_of l)) moves-are ∙ ap length (sym (kept-once s))
@@ -137,85 +176,55 @@ module _ (s : List ℕ) (r : Leading) (n : ℕ) (moves : List ℕ) (none : text_
       ap₂ take n-is (moves-are ∙ whole ∙ ap (λ (l : List ℕ). l ++ rest) (sym (kept-once s)))
       ∙ take_at (kept_of s) rest (length (kept_of s)) (omega arith)
 
-  given : {m : Mended} {kept : List ℕ} {reason : ℕ} → kept ≡ kept_of s → reason ≡ reason_of s
-      → m ≡ mended_answer 0 (number_of_slip kept reason) reason kept → m ≡ mended_found s
-  unfolding mended_found
-  given k w a =
-      a ∙ ap₂ (λ (l : List ℕ) (x : ℕ). mended_answer 0 (number_of_slip l x) x l) k w ∙ rw (eq-eqb (text_refusal s) 0 none)
-
   -- a repeat: it is among the codes that were read
-  pub repeat-found : (kept : List ℕ) (m : Mended) → kept ≡ take n moves → n < r.len
-      → m ≡ mended_answer 0 (number_of_slip kept 1) 1 kept → m ≡ mended_found s
-  repeat-found kept m k h a =
-      let l : length (once_of (leading_in s)) < length (leading_in s) = omega (arith, n-is, ap length (kept-once s), len_is) in
-      given (k ∙ front) (sym (why-slip s ∙ rw (lt-ltb (length (once_of (leading_in s))) (length (leading_in s)) l))) a
+  pub repeat-found : n < length moves → (kept : List ℕ) → kept ≡ take n moves → mended_with kept (Some Repeated) ≡ mended_found s
+  unfolding mended_found reason_named
+  repeat-found h kept k =
+      let l : length (once_of (leading_in s)) < length (leading_in s) = omega (arith, n-is, ap length (kept-once s), ap length moves-are) in
+      let why : reason_of s ≡ 1 = why-slip s ∙ rw (lt-ltb (length (once_of (leading_in s))) (length (leading_in s)) l) in
+      rw (k, front, why)
 
   -- no repeat: all that was read is kept, and what the reader refuses is the reason
-  pub reader-found : (m : Mended) → r.len ≤ n → m ≡ mended_answer 0 (number_of_slip moves r.refused) r.refused moves → m ≡ mended_found s
-  reader-found m h a =
-      let l : length (leading_in s) ≤ length (once_of (leading_in s)) = omega (arith, n-is, ap length (kept-once s), len_is) in
-      let all : moves ≡ kept_of s = sym (take_all n moves (omega (arith, h, len_is, ap length moves-are))) ∙ front in
-      given all (refused-is ∙ sym (why-slip s ∙ rw (le-ltb (length (once_of (leading_in s))) (length (leading_in s)) l))) a
+  pub reader-found : length moves ≤ n → (why : Option Reason) → why ≡ unread (option_map (λ (w : Slip). w.refusal) r.slip)
+      → mended_with moves why ≡ mended_found s
+  unfolding mended_found list_found points_refusal
+  reader-found h why ew =
+      let l : length (leading_in s) ≤ length (once_of (leading_in s)) = omega (arith, n-is, ap length (kept-once s), ap length moves-are) in
+      let all : moves ≡ kept_of s = sym (take_all n moves h) ∙ front in
+      let named : why ≡ reason_named (reason_of s)
+      = ew ∙ ap (λ (x : Leading). unread (option_map (λ (w : Slip). w.refusal) x.slip)) e
+      ∙ unread-named (points_refusal s) (slip_in s) (items-read (parts comma (trim s)))
+      ∙ ap reason_named (sym (why-slip s ∙ rw (le-ltb (length (once_of (leading_in s))) (length (leading_in s)) l))) in
+      ap₂ mended_with all named
 
   pub moves-short : length (take n moves) ≤ 225
   moves-short = omega (arith, ap length front, kept-short s)
 
-  pub all_short : r.len ≤ n → length moves ≤ 225
-  all_short h = omega (arith, n-is, kept-short s, h, len_is, ap length moves-are)
-
--- the moves that are kept, in a fresh buffer
-pub kept-given : (moves buf : List ℕ) (item reason n : ℕ) → length moves ≤ 225
-    → (n ≡ kept_to (zeros 225) 0 true moves) × (buf ≡ kept_in (zeros 225) 0 true moves) → item ≡ number_of_slip moves reason
-    → ◌≡◌ {A = Mended} (record { refused = 0; item = item; reason = reason; codes = buf; len = n })
-    (mended_answer 0 (number_of_slip moves reason) reason moves)
-unfolding mended_answer
-kept-given moves buf item reason n short k e =
-    let h = wrote-held 225 moves buf n (put moves k 225 short (omega (arith, length-zeros 225))) short in
-    rw (h.buffer, h.count, e)
-
--- the whole text is refused
-pub text-found : (s : List ℕ) (refused : ℕ) (m : Mended) → refused ≡ text_refusal s → (refused ≡ 0 → ⊥)
-    → m ≡ mended_answer refused 0 0 [] → m ≡ mended_found s
-unfolding mended_found
-text-found s refused m e n a =
-    a ∙ ap (λ (x : ℕ). mended_answer x 0 0 []) e ∙ rw (ne_eqb (text_refusal s) 0 (λ z. n (e ∙ z)))
+  pub all_short : length moves ≤ n → length moves ≤ 225
+  all_short h = omega (arith, n-is, kept-short s, h)
 
 -- ---- what is given back by value, and its two lines
 
 module _ (s : List ℕ) (m : Mended) (e : m ≡ mended_found s) where
-  pub mended-refusal : m.refused ≡ text_refusal s
-  unfolding mended_found mended_answer
-  mended-refusal = ap (λ (x : Mended). x.refused) e ∙ go (decide (eqb (text_refusal s) 0))
-    where
-      go : (eqb (text_refusal s) 0 ≡ true) ⊎ (eqb (text_refusal s) 0 ≡ false) → (mended_found s).refused ≡ text_refusal s
-      go (inl t) = rw t (sym (eqb-true (text_refusal s) 0 t))
-      go (inr t) = rw t
+  kept-are : m.moves ≡ kept_of s
+  unfolding mended_found
+  kept-are = ap (λ (x : Mended). x.moves) e
 
-  module _ (z : m.refused ≡ 0) where
-    is : m ≡ mended_answer 0 (number_of_slip (kept_of s) (reason_of s)) (reason_of s) (kept_of s)
-    unfolding mended_found
-    is = e ∙ rw (eq-eqb (text_refusal s) 0 (sym mended-refusal ∙ z))
+  pub mended-lines : two_lines m.moves (slip_item m.slip) (slip_reason m.slip) ≡ mended_text s
+  unfolding mended_found mended_text
+  mended-lines =
+      let numbers = slip-numbers (kept_of s) (reason_of s) (reasoned s) in
+      let slip = ap (λ (x : Mended). x.slip) e in
+      rw (kept-are, slip, numbers.0, numbers.1)
 
-    pub mended-moves : (part : List ℕ) → part ≡ take m.len m.codes → part ≡ kept_of s
-    unfolding mended_answer
-    mended-moves part k =
-        k ∙ ap₂ take (ap (λ (x : Mended). x.len) is) (ap (λ (x : Mended). x.codes) is) ∙ take-padded 225 (kept_of s)
+  -- they are points, at most 225
+  pub moves-good : (length m.moves ≤ 225) × (codes_refusal m.moves ≡ 0)
+  moves-good = (
+    omega (arith, ap length kept-are, kept-short s),
+    ap codes_refusal kept-are ∙ points-pass (kept_of s) (kept-none-twice s) (kept-points s),
+  )
 
-    pub mended-lines : (part : List ℕ) → part ≡ take m.len m.codes → two_lines part m.item m.reason ≡ mended_text s
-    unfolding mended_answer mended_text
-    mended-lines part k =
-        ap (λ (l : List ℕ). two_lines l m.item m.reason) (mended-moves part k)
-        ∙ ap₂ (two_lines (kept_of s)) (ap (λ (x : Mended). x.item) is) (ap (λ (x : Mended). x.reason) is)
-
-    -- they are points, at most 225
-    pub moves-good : (part : List ℕ) → part ≡ take m.len m.codes → (length part ≤ 225) × (codes_refusal part ≡ 0)
-    moves-good part k =
-        let same = mended-moves part k in (
-          omega (arith, ap length same, kept-short s),
-          ap codes_refusal same ∙ points-pass (kept_of s) (kept-none-twice s) (kept-points s),
-        )
-
--- ---- the loop that looks for the first repeat: the codes before place i are kept; `part` is these, `at` the place of code i in them
+-- ---- the loop that looks for the first repeat: the codes before place i are kept; `part` is these
 
 module _ (codes : List ℕ) (i : ℕ) (seen : once_of codes ≡ once_from (take i codes) (drop i codes)) where
   pub seen_end : i ≤ length codes → length codes ≤ i → i ≡ length (once_of codes)
@@ -228,7 +237,7 @@ module _ (codes : List ℕ) (i : ℕ) (seen : once_of codes ≡ once_from (take 
       nothing [] e = refl
       nothing (c ∷ l) e = absurd (omega arith)
 
-  module _ (h : i < length codes) (part : List ℕ) (at : ℕ) (ep : part ≡ take i codes) (ea : at ≡ find_at (get_or codes i 0) part) where
+  module _ (h : i < length codes) (part : List ℕ) (ep : part ≡ take i codes) where
     next : once_of codes
         ≡ cond (has (get_or codes i 0) part) part (once_from (part ++ (get_or codes i 0 ∷ [])) (drop (suc i) codes))
     unfolding once_from
@@ -239,15 +248,15 @@ module _ (codes : List ℕ) (i : ℕ) (seen : once_of codes ≡ once_from (take 
     long : length part ≡ i
     long = ap length ep ∙ length-take-le i codes (omega arith)
 
-    pub seen-repeat : at < i → i ≡ length (once_of codes)
+    pub seen-repeat : has (get_or codes i 0) part ≡ true → i ≡ length (once_of codes)
     seen-repeat k =
-        let stops : once_of codes ≡ part = next ∙ rw (has-yes (get_or codes i 0) part (omega (arith, ea, long))) in
+        let stops : once_of codes ≡ part = next ∙ rw k in
         sym (ap length stops ∙ long)
 
-    pub seen_more : i ≤ at → once_of codes ≡ once_from (take (i + 1) codes) (drop (i + 1) codes)
+    pub seen_more : has (get_or codes i 0) part ≡ false → once_of codes ≡ once_from (take (i + 1) codes) (drop (i + 1) codes)
     seen_more k =
         next
-        ∙ rw (has_no (get_or codes i 0) part (omega (arith, ea, long)))
+        ∙ rw k
         (ap (λ (l : List ℕ). once_from (l ++ (get_or codes i 0 ∷ [])) (drop (suc i) codes)) ep
         ∙ ap (λ (l : List ℕ). once_from l (drop (suc i) codes)) (sym (take-suc codes i 0 h))
         ∙ ap (λ (n : ℕ). once_from (take n codes) (drop n codes)) (sym (add-one i)))

@@ -1,14 +1,16 @@
 -- A comma list mended (document 02, No. 12, which is quoted): the leading moves that are kept, the item that slips, and the two lines that
 -- are written.
-use Rattle.std.specs.Prelude.{not, cond, List, [], ◌∷◌, ◌++◌, ℕ, ◌+◌, eqb, length}
+use Rattle.std.specs.Prelude.{not, cond, List, [], ◌∷◌, ◌++◌, ℕ, ◌+◌, eqb, length, Option, Some, None}
 use Rattle.rules.specs.Refusals.{unless, first}
-use Rattle.lent.specs.Lists.{padded}
-use Rattle.text.specs.Bytes.{newline, blank, comma, trim, has, parts, text_refusal}
+use Rattle.rules.specs.Answers.{refusal_no, refusal_named}
+use Rattle.text.specs.Bytes.{newline, blank, comma, trim, has, parts}
 use Rattle.text.specs.Points.{item_refusal, item_code}
 use Rattle.display.specs.Texts.{number_text, points_text}
-use Rattle.display.specs.declared.answer.LengthAnswer.{LengthAnswer}
-use Rattle.display.specs.declared.answer.LengthAnswer.TheVariants as answer
+use Rattle.rules.specs.declared.refusal.Refusal.{Refusal}
 use Rattle.mending.specs.declared.kept.Mended.{Mended}
+use Rattle.mending.specs.declared.kept.Slip.{Slip}
+use Rattle.mending.specs.declared.kept.Reason.{Reason}
+use Rattle.mending.specs.declared.kept.Reason.TheVariants as reason
 
 -- ---- item by item
 
@@ -55,15 +57,34 @@ mended_text s = two_lines (kept_of s) (number_of_slip (kept_of s) (reason_of s))
 
 -- ---- what is given back by value
 
-unfoldable pub mended_answer : ℕ → ℕ → ℕ → List ℕ → Mended
-mended_answer refused item reason kept =
-    record { refused = refused; item = item; reason = reason; codes = padded 225 kept; len = length kept }
+-- the number of a reason, and the reason of a number; none for 0
+abbrev pub reason_no : Reason → ℕ
+reason_no reason.Repeated = repeated
+reason_no (reason.Unread refusal) = refusal_no refusal
 
--- "Refusals: 1, then 2": where the text is refused as any text is nothing is read
+unfoldable pub reason_named : ℕ → Option Reason
+reason_named n = cond (eqb n 0) None (Some (cond (eqb n repeated) reason.Repeated (reason.Unread (refusal_named n))))
+
+-- the item behind the moves that are kept, where it slips for this reason
+abbrev pub slip_behind : List ℕ → Option Reason → Option Slip
+slip_behind kept None = None
+slip_behind kept (Some why) = Some (record { item = length kept + 1; reason = why })
+
+abbrev pub mended_with : List ℕ → Option Reason → Mended
+mended_with kept why = record { moves = kept; slip = slip_behind kept why }
+
+-- "Refusals: 1, then 2": of a text that is not refused as any text is
 unfoldable pub mended_found : List ℕ → Mended
-mended_found s =
-    cond (eqb (text_refusal s) 0) (mended_answer 0 (number_of_slip (kept_of s) (reason_of s)) (reason_of s) (kept_of s))
-    (mended_answer (text_refusal s) 0 0 [])
+mended_found s = mended_with (kept_of s) (reason_named (reason_of s))
+
+-- the numbers of the second line
+abbrev pub slip_item : Option Slip → ℕ
+slip_item None = 0
+slip_item (Some slip) = slip.item
+
+abbrev pub slip_reason : Option Slip → ℕ
+slip_reason None = 0
+slip_reason (Some slip) = reason_no slip.reason
 
 -- ---- what the code does: of the codes that were read, those before the first that stands among those before it
 
@@ -74,7 +95,7 @@ once_from kept (c ∷ codes) = cond (has c kept) kept (once_from (kept ++ (c ∷
 unfoldable pub once_of : List ℕ → List ℕ
 once_of codes = once_from [] codes
 
--- how long a text is said to be; 0 where it was refused
-unfoldable pub length_in : LengthAnswer → ℕ
-length_in (answer.Is n) = n
-length_in (answer.Refused n) = 0
+-- .. and what the reader refuses is the reason
+abbrev pub unread : Option Refusal → Option Reason
+unread None = None
+unread (Some refusal) = Some (reason.Unread refusal)

@@ -1,90 +1,99 @@
 // The moves of a comma list that are kept, up to the first item that slips.
-ghost use Rattle.std.specs.Prelude.{◌≡◌, [], ◌≤◌, length};
-ghost use Rattle.mending.specs.Mending.{number_of_slip, once_of, mended_answer, mended_found};
+ghost use Rattle.std.specs.Prelude.{◌≡◌, ◌≤◌, length};
+ghost use Rattle.std.specs.Option.{option_map};
+ghost use Rattle.rules.specs.Answers.{answer};
+ghost use Rattle.text.specs.Bytes.{text_refusal};
+ghost use Rattle.mending.specs.Mending.{once_of, reason_no, unread, slip_behind, mended_with, mended_found};
 
-use lent::{find, head, keep};
-use text::{read_leading, text_refusal};
+use lent::{Kept, head};
+use rules::Refusal;
+use text::{has, read_leading};
 
-// The codes of the moves that are kept, with zeros behind them, and how many they are; the number of the item that slips, from 1, and its
-// reason, or 0 twice. A text that is refused as any text is has its refusal, and nothing is kept.
-#[derive(Clone, Copy)]
+// The codes of the moves that are kept, and the item that slips, where one does.
+#[derive(Drop)]
 pub struct Mended {
-    pub refused: u8,
+    pub moves: Kept<225>,
+    pub slip: Option<Slip>,
+}
+
+// An item that slips: its number, from 1, and why.
+#[derive(Clone, Copy, Debug, PartialEq, Eq)]
+pub struct Slip {
     pub item: u8,
-    pub reason: u8,
-    pub codes: [u8; 225],
-    pub len: usize,
+    pub reason: Reason,
+}
+
+// Why an item slips: it names a point that is kept already, or it does not read as a point. As a number: 1, or the refusal's.
+#[derive(Clone, Copy, Debug, PartialEq, Eq)]
+pub enum Reason {
+    Repeated,
+    Unread(Refusal),
+}
+
+impl Reason {
+    pub fn number(self) -> u8
+        ensures { result ≡ reason_no self }
+    {
+        match self {
+            Reason::Repeated => 1,
+            Reason::Unread(refusal) => refusal as u8,
+        }
+    }
 }
 
 // The text of a comma list mended. An item slips where it does not read as a point, and where it names a point that is kept already.
-pub fn mend_list(text: &[u8]) -> Mended
-    ensures { result ≡ mended_found text.now }
+#[tactic(auto, unfolding(rules::specs::Answers::answer))]
+pub fn mend_list(text: &[u8]) -> Result<Mended, Refusal>
+    ensures { result ≡ answer (text_refusal text.now) (mended_found text.now) }
 {
-    let refused = text_refusal(text);
-    if refused != 0 {
-        return no_moves(refused);
+    let found = read_leading(text)?;
+    let codes = found.codes.as_slice();
+    let n = first_ones(codes);
+    if n < codes.len() {
+        return Ok(kept_moves(head(codes, n), Some(Reason::Repeated)));
     }
-    let found = read_leading(text);
-    let codes = found.codes;
-    let moves = head(&codes, found.len);
-    let n = first_ones(moves);
-    if n < found.len {
-        return kept_moves(head(moves, n), 1);
-    }
-    kept_moves(moves, found.refused)
+    Ok(kept_moves(codes, unread(found.slip)))
 }
 
-// A refusal of the whole text: no item is read.
-fn no_moves(refused: u8) -> Mended
-    ensures { result ≡ mended_answer refused 0 0 [] }
+// Why the reader refuses an item, where it does.
+fn unread(slip: Option<text::Slip>) -> Option<Reason>
+    ensures { result ≡ unread (option_map (λ w. w.refusal) slip) }
 {
-    Mended {
-        refused,
-        item: 0,
-        reason: 0,
-        codes: [0u8; 225],
-        len: 0,
-    }
+    Some(Reason::Unread(slip?.refusal))
 }
 
-// The moves that are kept, and why the item behind them slips (0: there is none).
-fn kept_moves(moves: &[u8], reason: u8) -> Mended
+// The moves that are kept, and the item behind them, where it slips.
+fn kept_moves(moves: &[u8], reason: Option<Reason>) -> Mended
     requires { length moves.now ≤ 225 }
-    ensures { result ≡ mended_answer 0 (number_of_slip moves.now reason) reason moves.now }
+    ensures { result ≡ mended_with moves.now reason }
 {
-    let item = slip_number(moves, reason);
-    let mut codes = [0u8; 225];
-    let len = keep(&mut codes, 0, true, moves);
+    let mut kept = Kept::new();
+    kept.keep(moves);
     Mended {
-        refused: 0,
-        item,
+        moves: kept,
+        slip: slip_behind(moves, reason),
+    }
+}
+
+fn slip_behind(moves: &[u8], reason: Option<Reason>) -> Option<Slip>
+    requires { length moves.now ≤ 225 }
+    ensures { result ≡ slip_behind moves.now reason }
+{
+    let reason = reason?;
+    Some(Slip {
+        item: moves.len() as u8 + 1,
         reason,
-        codes,
-        len,
-    }
-}
-
-// The item behind the moves that are kept, counted from 1; 0 where none slips.
-fn slip_number(moves: &[u8], reason: u8) -> u8
-    requires { length moves.now ≤ 225 }
-    ensures { result ≡ number_of_slip moves.now reason }
-{
-    if reason == 0 {
-        return 0;
-    }
-    moves.len() as u8 + 1
+    })
 }
 
 // How many codes stand before the first that stands among those before it.
 fn first_ones(codes: &[u8]) -> usize
     ensures { result ≡ length (once_of codes.now) }
 {
-    let mut i = 0;
-    while i < codes.len() {
-        if find(head(codes, i), codes[i]) < i {
+    for i in 0..codes.len() {
+        if has(head(codes, i), codes[i]) {
             return i;
         }
-        i += 1;
     }
-    i
+    codes.len()
 }

@@ -5,5 +5,5 @@
 mod kept;
 mod lines;
 
-pub use kept::{Mended, mend_list};
+pub use kept::{Mended, Reason, Slip, mend_list};
 pub use lines::write_mended;

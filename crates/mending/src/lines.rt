@@ -1,76 +1,69 @@
 // A mended list as text: the kept moves on the first line; on the second the number of the item that slips and its reason.
-ghost use Rattle.std.specs.Prelude.{◌≡◌, ◌+◌, ◌≤◌, length};
-ghost use Rattle.lent.specs.Lists.{list_out, counted, Wrote, Held};
+ghost use Rattle.std.specs.Prelude.{◌≡◌, ◌≤◌, length};
+ghost use Rattle.rules.specs.Answers.{answer};
+ghost use Rattle.lent.specs.Lists.{list_out, counted};
 ghost use Rattle.cells.specs.Cells.{codes_refusal};
 ghost use Rattle.text.specs.Bytes.{text_refusal};
-ghost use Rattle.display.specs.Texts.{number_text};
-ghost use Rattle.mending.specs.Mending.{slip_line, two_lines, mended_text, length_in};
+ghost use Rattle.mending.specs.Mending.{slip_line, slip_item, slip_reason, two_lines, mended_text};
 
-use super::kept::mend_list;
-use cells::hand_out;
-use display::{LengthAnswer, number_label, write_points};
-use lent::{head, keep};
-use rules::CountAnswer;
-
-// Room for 225 points of at most five bytes with their commas, and for the second line.
-#[derive(Clone, Copy)]
-struct Lines {
-    bytes: [u8; 1152],
-    len: usize,
-}
+use super::kept::{Slip, mend_list};
+use display::{number_label, write_points};
+use lent::{Kept, hand_out, head};
+use rules::Refusal;
 
 // The two lines of a text's mended list, each ended by byte 10, written to the front of `out`, and how long they are. Refusals 1, 2, 13.
-pub fn write_mended(text: &[u8], out: &mut [u8]) -> CountAnswer
+#[tactic(auto, unfolding(rules::specs::Answers::answer, rules::specs::Refusals::first, rules::specs::Refusals::unless, lent::specs::Lists::list_refusal, lent::specs::Lists::list_out, lent::specs::Lists::counted))]
+pub fn write_mended(text: &[u8], out: &mut [u8]) -> Result<u16, Refusal>
     ensures { (result ≡ counted 1 (text_refusal text.now) out.old (mended_text text.now))
         × (out.new ≡ list_out (text_refusal text.now) out.old (mended_text text.now)) }
 {
-    let mended = mend_list(text);
-    if mended.refused != 0 {
-        return CountAnswer::Refused(mended.refused);
-    }
-    let codes = mended.codes;
-    let lines = two_lines(head(&codes, mended.len), mended.item, mended.reason);
-    let bytes = lines.bytes;
-    hand_out(mended.refused, &bytes, lines.len, lines.len as u16, out)
+    let lines = mended_lines(text)?;
+    hand_out(lines.as_slice(), lines.len() as u16, out)
 }
 
-fn two_lines(moves: &[u8], item: u8, reason: u8) -> Lines
+// The two lines themselves.
+#[tactic(auto, unfolding(rules::specs::Answers::answer))]
+fn mended_lines(text: &[u8]) -> Result<Kept<1152>, Refusal>
+    ensures { result ≡ answer (text_refusal text.now) (mended_text text.now) }
+{
+    let mended = mend_list(text)?;
+    let (item, reason) = numbers(mended.slip);
+    Ok(two_lines(mended.moves.as_slice(), item, reason))
+}
+
+// The numbers of the second line: 0 twice where no item slips.
+fn numbers(slip: Option<Slip>) -> (u8, u8)
+    ensures item { result.0 ≡ slip_item slip }
+    ensures reason { result.1 ≡ slip_reason slip }
+{
+    match slip {
+        None => (0, 0),
+        Some(slip) => (slip.item, slip.reason.number()),
+    }
+}
+
+// There is room for 225 points of at most five bytes with their commas, and for the second line.
+fn two_lines(moves: &[u8], item: u8, reason: u8) -> Kept<1152>
     requires { (length moves.now ≤ 225) × (codes_refusal moves.now ≡ 0) }
-    ensures { Held 1152 (two_lines moves.now item reason) result.bytes result.len }
+    ensures { result ≡ two_lines moves.now item reason }
 {
-    let mut bytes = [0u8; 1152];
-    let at = length_in(write_points(moves, &mut bytes));
-    let next = keep(&mut bytes, at, true, b"\n");
-    let len = slip_into(&mut bytes, next, item, reason);
-    Lines { bytes, len }
+    let mut points = [0u8; 1125];
+    let len = write_points(moves, &mut points).unwrap_or(0);
+    let mut lines = Kept::new();
+    lines.keep(head(&points, len));
+    lines.keep(b"\n");
+    lines.keep(slip_line(item, reason).as_slice());
+    lines
 }
 
-// How long a text is; 0 where it was refused.
-fn length_in(answer: LengthAnswer) -> usize
-    ensures { result ≡ length_in answer }
+// The second line.
+fn slip_line(item: u8, reason: u8) -> Kept<8>
+    ensures { result ≡ slip_line item reason }
 {
-    match answer {
-        LengthAnswer::Is(n) => n,
-        LengthAnswer::Refused(_) => 0,
-    }
-}
-
-// The second line from place `at` on; the next place.
-fn slip_into(buf: &mut [u8], at: usize, item: u8, reason: u8) -> usize
-    requires { at + 10 ≤ length buf.old }
-    ensures { Wrote buf.old at (slip_line item reason) buf.new result }
-{
-    let a = number_into(buf, at, item);
-    let b = keep(buf, a, true, b" ");
-    let c = number_into(buf, b, reason);
-    keep(buf, c, true, b"\n")
-}
-
-fn number_into(buf: &mut [u8], at: usize, n: u8) -> usize
-    requires { at + 4 ≤ length buf.old }
-    ensures { Wrote buf.old at (number_text n) buf.new result }
-{
-    let label = number_label(n);
-    let bytes = label.bytes;
-    keep(buf, at, true, head(&bytes, label.len))
+    let mut line = Kept::new();
+    line.keep(number_label(item).as_slice());
+    line.keep(b" ");
+    line.keep(number_label(reason).as_slice());
+    line.keep(b"\n");
+    line
 }

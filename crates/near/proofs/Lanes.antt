@@ -312,11 +312,11 @@ module _ (own other : List ℕ) (p : ℕ) where
     pub four-told : {x : Bool} → x ≡ some_row (starts_of r.fours) → x ≡ some_row (seen b own other p Four)
     four-told ex = some-masks (seen b own other p Four) (seen_low b Four (omega arith)) e.fours ex
 
-    pub may-told : {x y z w : Bool} → x ≡ some_row (starts_of r.overlinings) → y ≡ more_than_one (starts_of r.swords)
-        → z ≡ more_than_one (starts_of r.twos) → w ≡ (x || y || z) → w ≡ may_apply (seen b own other p)
+    pub may-told : {x y z : Bool} → x ≡ some_row (starts_of r.overlinings) → y ≡ more_than_one (starts_of r.swords)
+        → z ≡ more_than_one (starts_of r.twos) → (x || y || z) ≡ may_apply (seen b own other p)
     unfolding may_apply
-    may-told ex ey ez ew =
-        ew ∙ rw (
+    may-told ex ey ez =
+        rw (
           some-masks (seen b own other p Overlining) (seen_low b Overlining (omega arith)) e.overlinings ex,
           more-masks (seen b own other p Sword) (seen_low b Sword (omega arith)) e.swords ey,
           more-masks (seen b own other p Two) (seen_low b Two (omega arith)) e.twos ez,

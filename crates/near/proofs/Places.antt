@@ -16,7 +16,7 @@ use Rattle.rules.specs.Line.{Stones, free, beside, dead, among}
 use Rattle.rules.specs.Point.{cell_no}
 use Rattle.rules.specs.Grid.{starts_of, numbered}
 use Rattle.rules.proofs.Logic.{true-T, all-elim, both_ways, and_left, and_right, and_intro, and-flip, any-elim, any-intro, any-cong}
-use Rattle.rules.proofs.Tables.{table2, table4, table5, beq-eq}
+use Rattle.rules.proofs.Tables.{table2, table4, beq-eq}
 use Rattle.rules.proofs.Bits.{bit-or, bit-mod, bit-shr, bit-shl-in, bit-one-in, bit-above, bit_mask}
 use Rattle.rules.proofs.Bits.{mask-and, mask-not, mask-ext, mask-cong}
 use Rattle.masks.proofs.Windows.{shr_lt, shr1, shr2, shr3, shr4}
@@ -216,14 +216,10 @@ four-moved m k =
     (bit m (k + 3))
     ∙ ap (λ (x : ℕ). bit m (k + 3) || (bit m (k + 2) || (bit m (k + 1) || (bit m x || false)))) (sym (add-zero k)))
 
-pub five-moved : (m k : ℕ)
-    → (bit m k || bit (m / 2) k || bit (m / 4) k || bit (m / 8) k || bit (m / 16) k) ≡ any_below 5 (λ i. bit m (k + i))
+-- .. the fifth after the four
+pub five-after : (m k : ℕ) → (any_below 4 (λ i. bit m (k + i)) || bit (m / 16) k) ≡ any_below 5 (λ i. bit m (k + i))
 unfolding any_below
-five-moved m k =
-    rw (shr1 m k, shr2 m k, shr3 m k, shr4 m k)
-    (table5 (λ a b c d e. a || b || c || d || e) (λ a b c d e. e || (d || (c || (b || (a || false))))) tt (bit m k) (bit m (k + 1))
-    (bit m (k + 2)) (bit m (k + 3)) (bit m (k + 4))
-    ∙ ap (λ (x : ℕ). bit m (k + 4) || (bit m (k + 3) || (bit m (k + 2) || (bit m (k + 1) || (bit m x || false))))) (sym (add-zero k)))
+five-after m k = rw (shr4 m k) (table2 (λ a b. a || b) (λ a b. b || a) tt (any_below 4 (λ i. bit m (k + i))) (bit m (k + 4)))
 
 -- n cells from j on hold cell c
 hit : (n j c : ℕ) → any_below n (λ i. eqb (j + i) c) ≡ among n j c

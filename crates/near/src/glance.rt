@@ -1,6 +1,6 @@
 // A glance at a point, for the reading of games: what it asks of the rows there, where their start masks are not handed on. Each function
 // has one caller, into which it is compiled, so that nothing of it travels through memory.
-ghost use Rattle.std.specs.Prelude.{◌≡◌, true, false, ◌||◌};
+ghost use Rattle.std.specs.Prelude.{◌≡◌, true, false};
 ghost use Rattle.rules.specs.Forbidden.{some_row};
 ghost use Rattle.rules.specs.declared.RowKind.TheVariants.{Four};
 ghost use Rattle.near.specs.Rows.{seen, may_apply};
@@ -11,7 +11,7 @@ use super::wide::windows_of;
 use super::words::{joined, outside};
 
 // Whether some Four goes through the point, and whether some kind may apply there.
-#[derive(Clone, Copy)]
+#[derive(Clone, Copy, Debug, PartialEq, Eq)]
 pub struct Glance {
     pub four: bool,
     pub may: bool,
@@ -24,31 +24,14 @@ pub fn black_glance_near(blacks: [u16; 4], whites: [u16; 4], code: u8) -> Glance
     let off = outside(code);
     let mine = joined(blacks) & !off;
     let rows = rows_from(windows_of(mine, joined(whites) | off, true), mine, code);
-    let fours = rows.fours;
-    let overlinings = rows.overlinings;
-    let swords = rows.swords;
-    let twos = rows.twos;
+    // all three are asked and joined by `|`, so that no branch is needed
+    let overline = some_row(rows.overlinings);
+    let double_four = more_than_one(rows.swords);
+    let double_two = more_than_one(rows.twos);
     Glance {
-        four: some_row(fours),
-        may: any_of(
-            some_row(overlinings),
-            more_than_one(swords),
-            more_than_one(twos),
-        ),
+        four: some_row(rows.fours),
+        may: overline | double_four | double_two,
     }
-}
-
-// Whether one of three holds.
-fn any_of(a: bool, b: bool, c: bool) -> bool
-    ensures { result ≡ (a || b || c) }
-{
-    if a {
-        return true;
-    }
-    if b {
-        return true;
-    }
-    c
 }
 
 // White's, to whom nothing is forbidden: whether some Four goes through the point.
@@ -58,6 +41,5 @@ pub fn white_four_near(whites: [u16; 4], blacks: [u16; 4], code: u8) -> bool
     let off = outside(code);
     let mine = joined(whites) & !off;
     let rows = rows_from(windows_of(mine, joined(blacks) | off, false), mine, code);
-    let fours = rows.fours;
-    some_row(fours)
+    some_row(rows.fours)
 }

@@ -9,7 +9,7 @@ use super::wide::{Windows, open_rows, over_rows, windows_of};
 use super::words::{five_back, four_back, joined, outside, parted, spots};
 
 // Where the rows through a point start: "four start masks travel together, one for each direction, zero where no line is stored".
-#[derive(Clone, Copy)]
+#[derive(Clone, Copy, Debug, PartialEq, Eq)]
 pub struct Rows {
     pub fours: [u16; 4],
     pub overlinings: [u16; 4],
@@ -27,7 +27,9 @@ pub fn rows_near(own: [u16; 4], other: [u16; 4], code: u8, black: bool) -> Rows
     rows_from(windows_of(mine, joined(other) | off, black), mine, code)
 }
 
-// The same for Black. It is the look of the referee's cycle alone, and is compiled into it as long as nothing else calls it.
+// The same for Black.
+// stays: beside `rows_near`, and its three lines, for speed: it is the look of the referee's cycle alone, and is compiled into it as long as
+// nothing else calls it. So are the two glances into the reading of games.
 pub fn black_rows_near(blacks: [u16; 4], whites: [u16; 4], code: u8) -> Rows
     ensures { RowsAre (seen true blacks whites code) result }
 {

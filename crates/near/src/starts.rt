@@ -24,6 +24,7 @@ pub fn more_than_one(starts: [u16; 4]) -> bool
 }
 
 // The number of the first start from a number on; 64 where there is none.
+// stays: no Option, since the cycle of questions keeps this number in its state, from which it goes on by a plain comparison.
 pub fn next_start(starts: [u16; 4], from: u8) -> u8
     ensures { result ≡ next_from (numbered (starts_of starts)) from }
 {

@@ -1,5 +1,5 @@
 // Four masks as one word of 64 places: place 16d + j is bit j of mask d, so that what is done to the word is done to four lines at once.
-ghost use Rattle.std.specs.Prelude.{◌≡◌, [], ◌∷◌, ◌+◌, ◌*◌, eqb, leb};
+ghost use Rattle.std.specs.Prelude.{◌≡◌, ◌+◌, ◌*◌, eqb, leb};
 ghost use Rattle.rules.specs.Tools.{any_below, tab};
 ghost use Rattle.rules.specs.Bit.{bit, mask_of};
 ghost use Rattle.rules.specs.Point.{line_no, cell_no, line_size};
@@ -11,13 +11,7 @@ use point::{cell_no, line_no, line_size};
 pub(crate) fn joined(masks: [u16; 4]) -> u64
     ensures { result ≡ mask_of 64 (place_in masks) }
 {
-    behind(masks[0], masks[1], masks[2], masks[3])
-}
-
-// .. as four numbers.
-fn behind(vertical: u16, horizontal: u16, ascending: u16, descending: u16) -> u64
-    ensures { result ≡ mask_of 64 (place_in (vertical ∷ horizontal ∷ ascending ∷ descending ∷ [])) }
-{
+    let [vertical, horizontal, ascending, descending] = masks;
     vertical as u64
         | (horizontal as u64) << 16
         | (ascending as u64) << 32
@@ -89,5 +83,5 @@ pub(crate) fn four_back(spots: u64) -> u64
 pub(crate) fn five_back(spots: u64) -> u64
     ensures { result ≡ mask_of 64 (λ k. any_below 5 (λ i. bit spots (k + i))) }
 {
-    spots | spots >> 1 | spots >> 2 | spots >> 3 | spots >> 4
+    four_back(spots) | spots >> 4
 }

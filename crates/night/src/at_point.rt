@@ -1,6 +1,6 @@
 // What is asked at each point, occupied ones too: both verdicts, and for each colour the four eyes and the rows of each kind through it.
 use board::Board;
-use records::{answer, count_word, holds, verdict_word};
+use records::{answer, holds, word};
 
 pub(crate) fn ask_points(before: u32, board: Board, cells: &[u8]) -> u32 {
     let mut t = before;
@@ -14,13 +14,13 @@ pub(crate) fn ask_points(before: u32, board: Board, cells: &[u8]) -> u32 {
 
 // At an occupied point the strict verdict is none, and the plain one is refused.
 fn ask_verdicts(before: u32, board: Board, cells: &[u8], code: u8) -> u32 {
-    let strict = verdict_word(referee::forbidden_strict(board, code));
-    let plain = verdict_word(referee::forbidden(board, code));
+    let strict = word(referee::forbidden_strict(board, code));
+    let plain = word(referee::forbidden(board, code));
     let t = answer(
         before,
-        strict == verdict_word(second::forbidden_strict(cells, code)),
+        strict == word(second::forbidden_strict(cells, code)),
     );
-    answer(t, plain == verdict_word(second::forbidden(cells, code)))
+    answer(t, plain == word(second::forbidden(cells, code)))
 }
 
 fn ask_through(before: u32, board: Board, cells: &[u8], code: u8, colour: u8) -> u32 {
@@ -34,17 +34,17 @@ fn ask_through(before: u32, board: Board, cells: &[u8], code: u8, colour: u8) ->
 fn same_eyes(board: Board, cells: &[u8], code: u8, colour: u8) -> bool {
     let mut page = [255u8; 240];
     let mut other = [255u8; 240];
-    let count = count_word(lists::four_eyes_on(board, code, colour, &mut page));
-    let told = count_word(second::four_eyes_on(cells, code, colour, &mut other));
-    (count == told) & same_page(&page, &other)
+    let count = word(lists::four_eyes_on(board, code, colour, &mut page));
+    let told = word(second::four_eyes_on(cells, code, colour, &mut other));
+    count == told && same_page(&page, &other)
 }
 
 fn same_rows(board: Board, cells: &[u8], code: u8, colour: u8, kind: u8) -> bool {
     let mut page = [255u8; 240];
     let mut other = [255u8; 240];
-    let count = count_word(lists::rows_on(board, code, colour, kind, &mut page));
-    let told = count_word(second::rows_on(cells, code, colour, kind, &mut other));
-    (count == told) & same_page(&page, &other)
+    let count = word(lists::rows_on(board, code, colour, kind, &mut page));
+    let told = word(second::rows_on(cells, code, colour, kind, &mut other));
+    count == told && same_page(&page, &other)
 }
 
 // Every byte of the two, behind the lists too. The reference to an array gives its length, which the array itself has lost once it was

@@ -20,11 +20,12 @@ ghost use Rattle.records.specs.Tallies.{total};
 use at_point::ask_points;
 use board::Board;
 use on_board::{ask_forbidden, ask_rows};
-use records::{at_most_one, line_at, next_line, read_records, room, say, say_number, sum};
+use records::{at_most_one, read_records, room, sum};
+use rules::Refusal;
 use text::read_cells;
 
 // What was counted so far.
-#[derive(Clone, Copy)]
+#[derive(Clone, Copy, Default)]
 struct Tally {
     boards: u64,
     questions: u64,
@@ -38,35 +39,41 @@ fn main(rt: HostRuntime) {
 }
 
 fn check_all<R: Print>(rt: &R, boards: &[u8]) {
-    let mut tally = Tally {
-        boards: 0,
-        questions: 0,
-        differ: 0,
-    };
-    let mut at = 0;
-    while at < boards.len() {
-        tally = check(rt, tally, line_at(boards, at));
-        at = next_line(boards, at);
+    let mut tally = Tally::default();
+    for line in boards.split_inclusive(|&byte| byte == b'\n') {
+        tally = check(rt, tally, line.strip_suffix(b"\n").unwrap_or(line));
     }
-    say_tally(rt, tally);
+    let _ = println!(rt;
+        "boards {}, questions {}, differ {}",
+        tally.boards, tally.questions, tally.differ
+    );
 }
 
 // One line more: read, asked about, named where there is something to say of it, and counted.
 fn check<R: Print>(rt: &R, before: Tally, line: &[u8]) -> Tally {
-    let read = read_cells(line);
-    let made = Board::read(read);
     let number = sum(before.boards, 1);
-    if made.refused != 0 {
-        say_refused(rt, number, made.refused);
-        return counted(before, 0);
+    match ask(line) {
+        Ok(t) => {
+            if t / 65536 != 0 {
+                let _ = println!(rt; "line {number} differs");
+            }
+            counted(before, t)
+        }
+        Err(refusal) => {
+            let _ = println!(rt; "line {number} {refusal}");
+            counted(before, 0)
+        }
     }
-    let cells = read.cells;
-    let t = ask_all(made.board, &cells);
-    say_differs(rt, number, t / 65536);
-    counted(before, t)
 }
 
-// Every question of a board, counted as `records::answer` counts: 4,517 of them.
+// Every question of a line's board.
+fn ask(line: &[u8]) -> Result<u32, Refusal> {
+    let cells = read_cells(line)?;
+    let board = Board::from_cells(&cells)?;
+    Ok(ask_all(board, &cells))
+}
+
+// They are counted as `records::answer` counts: 4,517 of them.
 fn ask_all(board: Board, cells: &[u8]) -> u32 {
     let t = ask_points(0, board, cells);
     let black = ask_rows(t, board, cells, 1);
@@ -84,32 +91,4 @@ fn counted(before: Tally, t: u32) -> Tally
         questions: sum(before.questions, (t % 65536) as u64),
         differ: sum(before.differ, at_most_one(t / 65536)),
     }
-}
-
-fn say_refused<R: Print>(rt: &R, number: u64, refused: u8) {
-    say(rt, b"line ");
-    say_number(rt, number);
-    say(rt, b" refused ");
-    say_number(rt, refused as u64);
-    say(rt, b"\n");
-}
-
-// Nothing, where no answer differs.
-fn say_differs<R: Print>(rt: &R, number: u64, differ: u32) {
-    if differ == 0 {
-        return;
-    }
-    say(rt, b"line ");
-    say_number(rt, number);
-    say(rt, b" differs\n");
-}
-
-fn say_tally<R: Print>(rt: &R, tally: Tally) {
-    say(rt, b"boards ");
-    say_number(rt, tally.boards);
-    say(rt, b", questions ");
-    say_number(rt, tally.questions);
-    say(rt, b", differ ");
-    say_number(rt, tally.differ);
-    say(rt, b"\n");
 }

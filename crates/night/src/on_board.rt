@@ -1,6 +1,6 @@
 // What is asked of a board as a whole: the rows of each kind, and the forbidden points.
 use board::Board;
-use records::{answer, count_word, holds};
+use records::{answer, holds, word};
 
 pub(crate) fn ask_rows(before: u32, board: Board, cells: &[u8], colour: u8) -> u32 {
     let mut t = before;
@@ -17,17 +17,17 @@ pub(crate) fn ask_forbidden(before: u32, board: Board, cells: &[u8]) -> u32 {
 fn same_rows(board: Board, cells: &[u8], colour: u8, kind: u8) -> bool {
     let mut page = [255u8; 4320];
     let mut other = [255u8; 4320];
-    let count = count_word(lists::rows(board, colour, kind, &mut page));
-    let told = count_word(second::rows(cells, colour, kind, &mut other));
-    (count == told) & same_page(&page, &other)
+    let count = word(lists::rows(board, colour, kind, &mut page));
+    let told = word(second::rows(cells, colour, kind, &mut other));
+    count == told && same_page(&page, &other)
 }
 
 fn same_forbidden(board: Board, cells: &[u8]) -> bool {
     let mut page = [255u8; 4320];
     let mut other = [255u8; 4320];
-    let count = count_word(referee::forbidden_points(board, &mut page));
-    let told = count_word(second::forbidden_points(cells, &mut other));
-    (count == told) & same_page(&page, &other)
+    let count = word(referee::forbidden_points(board, &mut page));
+    let told = word(second::forbidden_points(cells, &mut other));
+    count == told && same_page(&page, &other)
 }
 
 // Every byte of the two, behind the lists too. The reference to an array gives its length, which the array itself has lost once it was

@@ -1,5 +1,5 @@
 -- Directions as numbers and as the cases of `Direction`: the same choice of four. Assumes nothing.
-use mathlib.Core.Path.{◌≡◌, refl, ap, ◌∙◌}
+use mathlib.Core.Path.{◌≡◌, refl}
 use Prim.Native.Nat.{ℕ, zero, suc}
 use native.Mathlib.Omega.{arith}
 use borrow.Author.Tests.{ne_eqb}
@@ -15,13 +15,10 @@ by_way Horizontal v h a s = h
 by_way Ascending v h a s = a
 by_way Descending v h a s = s
 
-by-own : (d v h a s : ℕ) → by_direction d v h a s ≡ by_way (direction_of d) v h a s
+pub by-own : (d v h a s : ℕ) → by_direction d v h a s ≡ by_way (direction_of d) v h a s
 by-own zero v h a s = refl
 by-own (suc zero) v h a s = refl
 by-own (suc (suc zero)) v h a s = refl
 by-own (suc (suc (suc d))) v h a s =
     let n = suc (suc (suc d)) in
     simp (ne_eqb n 0 (λ e. omega arith), ne_eqb n 1 (λ e. omega arith), ne_eqb n 2 (λ e. omega arith))
-
-pub by_way_lem : {w : Direction} (d v h a s : ℕ) → direction_of d ≡ w → by_direction d v h a s ≡ by_way w v h a s
-by_way_lem d v h a s e = by-own d v h a s ∙ ap (λ (w : Direction). by_way w v h a s) e

@@ -4,7 +4,6 @@
 // number that is none.
 #![tactic(auto)]
 
-mod answer;
 mod index;
 mod key;
 mod lines;
@@ -12,10 +11,9 @@ mod place;
 mod table;
 mod view;
 
-pub use answer::{IndexAnswer, KeyAnswer, OffsetAnswer, PointAnswer};
 pub use index::{Index, Point, code_refusal, direction_refusal};
 pub use key::{key_direction, key_no, key_refusal, key_size, line_from_key, line_key};
 pub use lines::{cell_no, line_no, line_size, point_at, step_in};
 pub use place::{Place, address, address_by};
-pub use table::addresses;
+pub use table::{Table, addresses};
 pub use view::{turn_point, turned, undone, view_back, view_refusal, view_then};

@@ -1,5 +1,7 @@
 // Section 3 by arithmetic: the line through a point, its size, and the point at a cell of a line. A direction over 3 is taken for Descending
 // everywhere here. A code over 224 has the same arithmetic, x = code / 15 and y = code % 15, and is no point.
+#![tactic(auto, unfolding(rules::specs::Point::line_no, rules::specs::Point::cell_no, rules::specs::Point::line_count, rules::specs::Point::line_size, rules::specs::Point::stored, rules::specs::Point::point_at))]
+
 ghost use Rattle.std.specs.Prelude.{◌≡◌, cond, ◌+◌, ◌-◌, ◌<◌, ltb};
 ghost use Rattle.rules.specs.Point.{by_direction, step_of, line_no, cell_no, line_count, line_size, stored, point_at, code_of};
 
@@ -74,19 +76,17 @@ fn diagonal_size(i: u8) -> u8
     ensures { result ≡ cond (ltb i 14) (i + 1) (29 - i) }
 {
     if i < 14 {
-        return i + 1;
+        i + 1
+    } else {
+        29u8.saturating_sub(i)
     }
-    if i < 29 { 29 - i } else { 0 }
 }
 
 // Whether a line is long enough to be stored.
 pub(crate) fn is_stored(d: u8, i: u8) -> bool
     ensures { result ≡ stored d i }
 {
-    if d < 2 {
-        return true;
-    }
-    if i < 4 { false } else { i <= 24 }
+    d < 2 || 4 <= i && i <= 24
 }
 
 // The code of the point at cell j of line i; of a cell that is not on that line, what the same sum gives, which is no point of the line and may
@@ -118,9 +118,9 @@ fn descending_at(i: u16, j: u16) -> u16
     ensures { result ≡ cond (ltb i 14) (code_of j (i - j)) (code_of (i + j - 14) (14 - j)) }
 {
     if i < 14 {
-        code_of(j, wide_less(i, j))
+        code_of(j, i.saturating_sub(j))
     } else {
-        code_of(i + j - 14, wide_less(14, j))
+        code_of(i + j - 14, 14u16.saturating_sub(j))
     }
 }
 
@@ -129,18 +129,4 @@ fn code_of(x: u16, y: u16) -> u16
     ensures { result ≡ code_of x y }
 {
     15 * x + y
-}
-
-// a - b, or 0 where b is the larger.
-pub(crate) fn less(a: u8, b: u8) -> u8
-    ensures { result ≡ a - b }
-{
-    if a < b { 0 } else { a - b }
-}
-
-// The same of wider numbers.
-pub(crate) fn wide_less(a: u16, b: u16) -> u16
-    ensures { result ≡ a - b }
-{
-    if a < b { 0 } else { a - b }
 }

@@ -1,4 +1,6 @@
 // The address of a point: where the line through it stands among the stored ones.
+#![tactic(auto, unfolding(crate::specs::Places::place_by, crate::specs::Places::unpacked))]
+
 ghost use Rattle.std.specs.Prelude.{◌≡◌};
 ghost use Rattle.point.specs.Places.{place_of, place_by, unpacked};
 
@@ -6,12 +8,18 @@ use super::lines::by_direction;
 use super::table::addresses;
 
 // The key of the line and the point's cell on it, where that line is stored; else both are 0.
-#[derive(Clone, Copy)]
+#[derive(Clone, Copy, Debug, PartialEq, Eq)]
 pub struct Place {
     pub stored: bool,
     pub key: u8,
     pub cell: u8,
 }
+
+const NOWHERE: Place = Place {
+    stored: false,
+    key: 0,
+    cell: 0,
+};
 
 // The line through a point, in a direction, read off the table: the one address that every put and remove, and every reading of the lines
 // through a point, asks for. (A cell's value alone is read off its column.) A code over 224 has none; a direction over 3 is taken for
@@ -31,11 +39,7 @@ pub fn address_by(table: &[u16; 900], d: u8, code: u8) -> Place
         let way = by_direction(d, 0, 1, 2, 3) as usize;
         return place_of(table[4 * code as usize + way]);
     }
-    Place {
-        stored: false,
-        key: 0,
-        cell: 0,
-    }
+    NOWHERE
 }
 
 // What an entry says. One that is 16 times 72 or more names no key.
@@ -49,9 +53,5 @@ fn place_of(entry: u16) -> Place
             cell: (entry % 16) as u8,
         };
     }
-    Place {
-        stored: false,
-        key: 0,
-        cell: 0,
-    }
+    NOWHERE
 }

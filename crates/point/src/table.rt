@@ -1,6 +1,8 @@
 // Addresses from a table, written by tools/addresses: four numbers for each point, one for each direction.
-ghost use Rattle.std.specs.Prelude.{◌≡◌};
+ghost use Rattle.std.specs.Prelude.{◌≡◌, ℕ, List};
 ghost use Rattle.point.specs.Places.{addresses};
+
+use std::marker::Model;
 
 // "four for each point: the line's key and cell packed as 16 times key plus cell, and 65535 for a diagonal that is not stored". That of
 // direction d is entry 4 · code + d.
@@ -57,8 +59,40 @@ const ADDRESSES: [u16; 900] = [
 ];
 
 // The whole table, for whoever asks about many points: it is laid out once, and lent to every question.
+#[tactic(auto, unfolding(crate::specs::Places::addresses))]
 pub fn addresses() -> [u16; 900]
     ensures { result ≡ addresses }
 {
     ADDRESSES
+}
+
+// The table laid out, and no other numbers: what is lent to a question so needs no clause that says which table it is.
+#[derive(Drop)]
+pub struct Table {
+    numbers: [u16; 900],
+}
+
+impl Model for Table {
+    ghost Value = { List ℕ };
+
+    ghost view = { λ a. a.numbers };
+
+    ghost invariant = { λ a. a.numbers ≡ addresses };
+}
+
+impl Table {
+    pub fn new() -> Table
+        ensures { result ≡ addresses }
+    {
+        Table {
+            numbers: addresses(),
+        }
+    }
+
+    // The numbers, lent.
+    pub fn numbers(&self) -> &[u16; 900]
+        ensures { result.now ≡ addresses }
+    {
+        &self.numbers
+    }
 }

@@ -1,18 +1,19 @@
 // The eight views of a point (section 6), and one after another (document 02, No. 9).
+#![tactic(auto, unfolding(rules::specs::Answers::answer, rules::specs::Refusals::unless, rules::specs::Refusals::view_refusal, rules::specs::Views::turn, rules::specs::Views::undo, rules::specs::Refusals::first, rules::specs::Views::then_row))]
+
 ghost use Rattle.std.specs.Prelude.{◌≡◌, get_or};
 ghost use Rattle.rules.specs.Refusals.{first, code_refusal, view_refusal};
-ghost use Rattle.rules.specs.Answers.{number_answer};
+ghost use Rattle.rules.specs.Answers.{answer, checked};
 ghost use Rattle.rules.specs.Views.{turn, undo, then_view, then_row};
 
 use super::index::code_refusal;
-use super::lines::wide_less;
-use rules::{NumberAnswer, first, unless};
+use rules::{Refusal, unless};
 
-// 12 for a view over 7.
-pub fn view_refusal(view: u8) -> u8
-    ensures { result ≡ view_refusal view }
+// NoNumber for a view over 7.
+pub fn view_refusal(view: u8) -> Result<(), Refusal>
+    ensures { result ≡ checked (view_refusal view) }
 {
-    unless(view < 8, 12)
+    unless(view < 8, Refusal::NoNumber)
 }
 
 // The code of the point to which a view sends a point; a view over 7 is taken for 7. A code over 224 is no point; the sum is done with it all
@@ -22,8 +23,8 @@ pub fn turned(code: u8, view: u8) -> u16
 {
     let x = (code / 15) as u16;
     let y = (code % 15) as u16;
-    let x_back = wide_less(14, x);
-    let y_back = wide_less(14, y);
+    let x_back = 14u16.saturating_sub(x);
+    let y_back = 14u16.saturating_sub(y);
     match view {
         0 => 15 * x + y,
         1 => 15 * y + x_back,
@@ -48,31 +49,29 @@ pub fn undone(view: u8) -> u8
 }
 
 // `turned`, with refusals.
-pub fn turn_point(code: u8, view: u8) -> NumberAnswer
-    ensures { result ≡ number_answer (first (code_refusal code) (view_refusal view)) (turn view code) }
+pub fn turn_point(code: u8, view: u8) -> Result<u8, Refusal>
+    ensures { result ≡ answer (first (code_refusal code) (view_refusal view)) (turn view code) }
 {
-    let refused = first(code_refusal(code), view_refusal(view));
-    if refused != 0 {
-        return NumberAnswer::Refused(refused);
-    }
-    NumberAnswer::Is(turned(code, view) as u8)
+    code_refusal(code)?;
+    view_refusal(view)?;
+    Ok(turned(code, view) as u8)
 }
 
 // The view that equals a view followed by the next one. Order matters: 4 then 1 is 6, 1 then 4 is 7.
-pub fn view_then(view: u8, next: u8) -> NumberAnswer
-    ensures { result ≡ number_answer (first (view_refusal view) (view_refusal next)) (then_view view next) }
+pub fn view_then(view: u8, next: u8) -> Result<u8, Refusal>
+    ensures { result ≡ answer (first (view_refusal view) (view_refusal next)) (then_view view next) }
 {
-    NumberAnswer::of(
-        first(view_refusal(view), view_refusal(next)),
-        followed(view, next),
-    )
+    view_refusal(view)?;
+    view_refusal(next)?;
+    Ok(followed(view, next))
 }
 
 // The view that takes a view back.
-pub fn view_back(view: u8) -> NumberAnswer
-    ensures { result ≡ number_answer (view_refusal view) (undo view) }
+pub fn view_back(view: u8) -> Result<u8, Refusal>
+    ensures { result ≡ answer (view_refusal view) (undo view) }
 {
-    NumberAnswer::of(view_refusal(view), undone(view))
+    view_refusal(view)?;
+    Ok(undone(view))
 }
 
 // A view followed by the next, by the table; 0 where the next is none of the eight.

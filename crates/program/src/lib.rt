@@ -6,6 +6,7 @@
 ghost use Rattle.std.specs.Prelude.{◌≡◌, true, ◌<◌, ◌≤◌, T, length, take};
 
 use lent::head;
+use rules::Refusal;
 use std::env::FillError;
 use std::io::Read;
 use std::rt::Env;
@@ -25,11 +26,11 @@ pub fn read_full<R: Input>(rt: &R, room: &mut [u8]) -> usize
 {
     let mut input = rt.reader();
     let mut done = 0;
+    // stays: each turn reads as many bytes as there are
     while done < room.len() {
         match input.read(&mut room[done..]) {
-            Ok(0) => break,
+            Ok(0) | Err(_) => break,
             Ok(n) => done += n,
-            Err(_) => break,
         }
     }
     done
@@ -57,13 +58,13 @@ pub fn write<R: Print + Eprint>(rt: &R, bytes: &[u8], failed: &str) {
 }
 
 // `refused N`, on a line of standard error.
-pub fn refuse<R: Eprint>(rt: &R, number: u8) {
-    let _ = eprintln!(rt; "refused {number}");
+pub fn refuse<R: Eprint>(rt: &R, refusal: Refusal) {
+    let _ = eprintln!(rt; "{refusal}");
 }
 
 // .. of standard output, where a program writes its refusals there.
-pub fn refuse_on_output<R: Print>(rt: &R, number: u8) {
-    let _ = println!(rt; "refused {number}");
+pub fn refuse_on_output<R: Print>(rt: &R, refusal: Refusal) {
+    let _ = println!(rt; "{refusal}");
 }
 
 // On standard error.
@@ -83,11 +84,7 @@ pub fn word_count<R: Env>(rt: &R) -> usize {
 
 fn has_word<R: Env>(rt: &R, number: usize) -> bool {
     let mut word = [0u8; 8];
-    match rt.arg(number, &mut word) {
-        Ok(_) => true,
-        Err(FillError::TooLong) => true,
-        Err(FillError::NotPresent) => false,
-    }
+    !matches!(rt.arg(number, &mut word), Err(FillError::NotPresent))
 }
 
 // Whether an argument is this word, of at most eight bytes. One that does not fit is another.

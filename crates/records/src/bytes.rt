@@ -9,8 +9,7 @@ use super::{byte, byte_at};
 pub fn bytes_in(digits: &[u8]) -> usize
     ensures { result ≡ bytes_in digits.now }
 {
-    let n = digits.len() / 2;
-    if n < 4096 { n } else { 4096 }
+    (digits.len() / 2).min(4096)
 }
 
 // The bytes that digits spell, and behind them spaces, one byte more than a text may have. The length, which the table gives too, is what
@@ -19,14 +18,13 @@ pub fn bytes_of(digits: &[u8]) -> [u8; 4097]
     ensures { (4097 ≡ length result) × (result ≡ tab 4097 (spelled_at digits.now)) }
 {
     let mut bytes = [b' '; 4097];
-    let mut i = 0usize;
-    while i < 4097 {
+    for i in 0..4097 {
         bytes[i] = spelled_at(digits, i);
-        i += 1;
     }
     bytes
 }
 
+#[tactic(auto, unfolding(crate::specs::Bytes::spelled_at))]
 fn spelled_at(digits: &[u8], i: usize) -> u8
     ensures { result ≡ spelled_at digits.now i }
 {
@@ -42,15 +40,14 @@ pub fn cells_of(field: &[u8]) -> [u8; 225]
     ensures { (225 ≡ length result) × (result ≡ tab 225 (cell_in field.now)) }
 {
     let mut cells = [0u8; 225];
-    let mut i = 0usize;
-    while i < 225 {
+    for i in 0..225 {
         cells[i] = cell_in(field, i);
-        i += 1;
     }
     cells
 }
 
 // 3, which is no cell byte, where the field is not well formed.
+#[tactic(auto, unfolding(crate::specs::Bytes::cell_in, crate::specs::Bytes::cell_byte))]
 fn cell_in(field: &[u8], i: usize) -> u8
     ensures { result ≡ cell_in field.now i }
 {
@@ -83,22 +80,22 @@ pub fn has_form(s: &[u8], form: &[u8]) -> bool
     if s.len() < form.len() {
         return false;
     }
-    let mut all = true;
-    let mut i = 0;
-    while i < s.len() {
-        all = fits(s[i], byte_at(form, i)) & all;
-        i += 1;
+    for i in 0..s.len() {
+        if !fits(s[i], byte_at(form, i)) {
+            return false;
+        }
     }
-    all
+    true
 }
 
+#[tactic(auto, unfolding(crate::specs::Bytes::form_fits))]
 fn fits(b: u8, wanted: u8) -> bool
     ensures { result ≡ form_fits b wanted }
 {
     if wanted == b' ' {
         return b == b' ';
     }
-    ((b'0' <= b) & (b <= b'9')) | ((b'a' <= b) & (b <= b'f'))
+    matches!(b, b'0'..=b'9' | b'a'..=b'f')
 }
 
 // Whether a buffer that was lent full of 255 has the wanted bytes in front, and 255 behind them. No answer has that byte: a text's are
@@ -106,15 +103,15 @@ fn fits(b: u8, wanted: u8) -> bool
 pub fn holds(page: &[u8], wanted: &[u8]) -> bool
     ensures { result ≡ holds_bytes page.now wanted.now }
 {
-    let mut all = true;
-    let mut i = 0;
-    while i < page.len() {
-        all = (page[i] == wanted_at(wanted, i)) & all;
-        i += 1;
+    for i in 0..page.len() {
+        if page[i] != wanted_at(wanted, i) {
+            return false;
+        }
     }
-    all
+    true
 }
 
+#[tactic(auto, unfolding(crate::specs::Bytes::wanted_at))]
 fn wanted_at(wanted: &[u8], i: usize) -> u8
     ensures { result ≡ wanted_at wanted.now i }
 {

@@ -12,9 +12,7 @@ ghost use Rattle.std.specs.Prelude.{◌≡◌, ◌+◌, ◌≤◌, min};
 ghost use Rattle.std.specs.Int.Count.{ones};
 ghost use Rattle.records.specs.Records.{byte_at, digit_of, hex_of, place_from, line_end, line_at};
 
-pub use answers::{
-    count_word, mask_word, number_word, refusal_word, stone_word, test_word, verdict_word,
-};
+pub use answers::{Value, refusal_word, word};
 pub use bytes::{bytes_in, bytes_of, cells_of, has_form, holds, with_cell};
 pub use input::{read_records, room};
 pub use report::{say, say_counts, say_number};
@@ -30,12 +28,9 @@ pub fn byte_at(s: &[u8], i: usize) -> u8
 pub fn hex(s: &[u8], at: usize, digits: u8) -> u16
     ensures { result ≡ hex_of s.now at digits }
 {
-    let n = at_most_four(digits);
     let mut v = 0u16;
-    let mut k = 0u8;
-    while k < n {
+    for k in 0..digits.min(4) {
         v = v * 16 + digit(byte_after(s, at, k));
-        k += 1;
     }
     v
 }
@@ -51,12 +46,10 @@ pub fn byte(s: &[u8], at: usize) -> u8
 pub fn find_from(s: &[u8], from: usize, d: u8) -> usize
     ensures { result ≡ place_from s.now from d }
 {
-    let mut i = from;
-    while i < s.len() {
+    for i in from..s.len() {
         if s[i] == d {
             return i;
         }
-        i += 1;
     }
     s.len()
 }
@@ -68,6 +61,7 @@ fn line_end(s: &[u8], from: usize) -> usize
 }
 
 // The bytes from a place to the end of its line.
+#[tactic(auto, unfolding(crate::specs::Records::line_at))]
 pub fn line_at(s: &[u8], at: usize) -> &[u8]
     ensures { result.now ≡ line_at s.now at }
 {
@@ -92,12 +86,6 @@ pub fn count_bits(mask: u16) -> u8
     u16::count_ones(mask) as u8
 }
 
-fn at_most_four(n: u8) -> u8
-    ensures { result ≡ min n 4 }
-{
-    if n < 4 { n } else { 4 }
-}
-
 // The byte k places after `at`, a place that can be past what a usize holds.
 fn byte_after(s: &[u8], at: usize, k: u8) -> u8
     ensures { result ≡ byte_at s.now (at + k) }
@@ -109,12 +97,13 @@ fn byte_after(s: &[u8], at: usize, k: u8) -> u8
     }
 }
 
+#[tactic(auto, unfolding(crate::specs::Records::digit_of))]
 fn digit(b: u8) -> u16
     ensures { result ≡ digit_of b }
 {
     match b {
-        b'0'..=b'9' => (b - 48) as u16,
-        b'a'..=b'f' => (b - 87) as u16,
+        b'0'..=b'9' => (b - b'0') as u16,
+        b'a'..=b'f' => (b - b'a' + 10) as u16,
         _ => 0,
     }
 }

@@ -8,6 +8,7 @@ use super::{byte_at, find_from};
 
 // The answers of a record are counted in one number: those that were compared in its low half, those of them that differ in its high half.
 // No record has 65,536.
+#[tactic(auto, unfolding(crate::specs::Tallies::after_answer))]
 pub fn answer(t: u32, agrees: bool) -> u32
     ensures { result ≡ after_answer t agrees }
 {
@@ -19,6 +20,7 @@ pub fn answer(t: u32, agrees: bool) -> u32
 
 // One record more, with its answers, in the row of its letter: how many records, answers and answers that differ there are, and how many
 // records with such a one, of which the first three are written. A comment is no record.
+#[tactic(auto, unfolding(crate::specs::Tallies::after_record, crate::specs::Tallies::record_counted))]
 pub fn count<R: Print>(rt: &R, counts: &mut [u64; 64], letters: &[u8], record: &[u8], t: u32)
     ensures { counts.new ≡ after_record counts.old letters.now (byte_at «record».now 0) t }
 {
@@ -39,16 +41,16 @@ pub fn count<R: Print>(rt: &R, counts: &mut [u64; 64], letters: &[u8], record: &
 fn row_of(letters: &[u8], letter: u8) -> usize
     ensures { result ≡ count_row letters.now letter }
 {
-    let k = find_from(letters, 0, letter);
-    if k < 15 { 4 * k } else { 60 }
+    4 * find_from(letters, 0, letter).min(15)
 }
 
 pub fn at_most_one(n: u32) -> u64
     ensures { result ≡ min n 1 }
 {
-    if n == 0 { 0 } else { 1 }
+    n.min(1) as u64
 }
 
+#[tactic(auto, unfolding(crate::specs::Tallies::added))]
 fn add(counts: &mut [u64; 64], at: usize, n: u64)
     ensures { counts.new ≡ added counts.old at n }
 {
@@ -61,5 +63,5 @@ fn add(counts: &mut [u64; 64], at: usize, n: u64)
 pub fn sum(a: u64, b: u64) -> u64
     ensures { result ≡ total a b }
 {
-    if a <= u64::MAX - b { a + b } else { u64::MAX }
+    a.saturating_add(b)
 }

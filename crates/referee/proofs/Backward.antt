@@ -66,6 +66,10 @@ pub record Read (cells : List ℕ) (d p size step q both j : ℕ) : Type 0 where
   pub halves : both
       ≡ mask_of 15 (λ k. stone_at Black cells d (line_no d p) (j + k)) + 65536 * mask_of 15 (λ k. stone_at White cells d (line_no d p) (j + k))
 
+pub read-at : (cells : List ℕ) (d p : ℕ) {size step q both i j : ℕ} → i ≡ j → Read cells d p size step q both j
+    → Read cells d p size step q both i
+read-at cells d p e w = rw e w
+
 module _ (cells : List ℕ) (d p : ℕ) {size step : ℕ} where
   pub read-start : {line cell : ℕ} → line ≡ line_no d p → size ≡ line_size d line → cell ≡ cell_no d p → step ≡ step_of d
       → Read cells d p size step (p - cell * step + size * step) 0 size

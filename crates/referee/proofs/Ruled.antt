@@ -1,11 +1,15 @@
 -- The refusals of a question on a board: what none says, and each by its tests. Assumes nothing.
-use mathlib.Core.Path.{◌≡◌, refl, ap, sym, ◌∙◌}
-use mathlib.Core.Bool.{Bool}
+use mathlib.Core.Path.{◌≡◌, refl, ◌∙◌}
+use mathlib.Core.Bool.{Bool, true, false}
 use Prim.Native.Nat.{ℕ, ◌<◌}
 use lib.Dec.{eqb}
+use Rattle.std.specs.Prelude.{Result}
 use lib.ListN.{get_or}
-use borrow.Author.Tests.{eq-eqb, ne_eqb, eqb-true}
-use Rattle.rules.specs.Refusals.{first, unless}
+use borrow.Author.Tests.{eqb-true}
+use Rattle.rules.specs.Answers.{answer, checked, refused_by}
+use Rattle.rules.specs.Refusals.{occupied, first, unless}
+use Rattle.rules.specs.declared.refusal.Refusal.{Refusal}
+use Rattle.rules.specs.declared.refusal.Refusal.TheVariants as refusal
 use Rattle.rules.specs.Grid.{is_empty}
 use Rattle.rules.proofs.Logic.{T_true}
 use Rattle.rules.proofs.Refusals.{first-none, passed}
@@ -25,14 +29,14 @@ module _ (b : Board) (p : ℕ) where
       let (s, hp) = at_in b p q.0 in
       (s, hp, eqb-true (get_or (cells b) p 0) 0 (empty-cell b.lines p hp ∙ T_true (passed (is_empty (get_or (cells b) p 0)) 10 q.1)))
 
-  -- a board or a point is refused before the stone there
-  pub refused-first : {refused : ℕ} → refused ≡ refusal_at b p → (refused ≡ 0 → ⊥) → refused ≡ forbidden_refusal b p
-  unfolding forbidden_refusal first
-  refused-first e n = e ∙ rw (ne_eqb (refusal_at b p) 0 (λ z. n (e ∙ z))) refl
-
-  pub refused-taken : {refused v r : ℕ} → refused ≡ refusal_at b p → refused ≡ 0 → v ≡ cell_of b.lines p → r ≡ unless (eqb v 0) 11
-      → r ≡ forbidden_refusal b p
-  unfolding forbidden_refusal first
-  refused-taken {v = v} e z ev er =
-      let (s, hp) = at_in b p (sym e ∙ z) in
-      er ∙ ap (λ (t : Bool). unless t 11) (sym (free-is b.lines p hp ev)) ∙ rw (eq-eqb (refusal_at b p) 0 (sym e ∙ z)) refl
+  -- .. then by what stands there
+  pub refused-taken : {r : Result Unit Refusal} {v : ℕ} → refusal_at b p ≡ 0 → v ≡ cell_of b.lines p → r ≡ refused_by (eqb v 0) refusal.Occupied
+      → r ≡ checked (forbidden_refusal b p)
+  unfolding forbidden_refusal first unless answer
+  refused-taken {v = v} z ev er =
+      let (s, hp) = at_in b p z in
+      er ∙ rw (z, free-is b.lines p hp ev) (go (eqb v 0))
+    where
+      go : (t : Bool) → refused_by t refusal.Occupied ≡ checked (unless t occupied)
+      go true = refl
+      go false = refl

@@ -1,17 +1,18 @@
--- Where a stone may be tried for a verdict: by the cell at the point, by the tests that need no trial, by the refusal. Assumes nothing.
-use mathlib.Core.Path.{◌≡◌, refl, sym, ◌∙◌}
+-- Where a stone may be tried for a verdict: by the cell at the point, by the tests that need no trial. Assumes nothing.
+use mathlib.Core.Path.{◌≡◌, refl, ap, ap₂, sym, ◌∙◌}
 use mathlib.Core.Bool.{Bool, true, false, ◌&&◌, ◌||◌, cond}
 use mathlib.Core.List.{List}
 use Prim.Native.Nat.{ℕ}
 use lib.ListN.{get_or}
-use borrow.Author.Tests.{eq-eqb, ne_eqb}
+use Rattle.std.specs.Prelude.{Option, Some, None}
 use Rattle.rules.specs.Grid.{is_empty}
-use Rattle.rules.specs.Forbidden.{more_twos, may_forbid, is_overline, is_double_four}
+use Rattle.rules.specs.Forbidden.{more_twos, may_forbid, is_overline, is_double_four, strict_of}
+use Rattle.rules.specs.declared.Verdict.{Verdict}
 use Rattle.rules.proofs.Logic.{no_true}
 use Rattle.lent.specs.Lists.{zeros}
 use Rattle.grid.specs.Lines.{lines_of}
-use Rattle.cells.specs.Cells.{cells_refusal_at}
-use Rattle.referee.specs.Answers.{is_tried, is_tried_at}
+use Rattle.referee.specs.Answers.{is_tried, ruling_of}
+use Rattle.referee.specs.declared.ruling.Ruling.{Ruling}
 
 module _ (cells : List ℕ) (p : ℕ) where
   pub taken-untried : is_empty (get_or cells p 0) ≡ false → false ≡ is_tried cells p
@@ -34,20 +35,15 @@ module _ (cells : List ℕ) (p : ℕ) where
   unfolding is_tried
   free-tried z e = e ∙ rw z refl
 
-  -- with the refusal
-  module _ {refused : ℕ} (r : refused ≡ cells_refusal_at cells p) where
-    pub refused-untried : (refused ≡ 0 → ⊥) → false ≡ is_tried_at cells p
-    unfolding is_tried_at
-    refused-untried n = rw (ne_eqb (cells_refusal_at cells p) 0 (λ z. n (r ∙ z))) refl
+  -- the ruling, where a stone may have to be tried, and where not
+  pub ruled : {tried : Bool} → tried ≡ is_tried cells p → {a : Ruling} → a.verdict ≡ strict_of cells p
+      → a.lines ≡ cond tried (Some (lines_of cells)) None → a ≡ ruling_of cells p
+  unfolding ruling_of
+  ruled t {a} ev el =
+      ap₂ {A = Verdict} {B = Option (List ℕ)} (λ v l. record { verdict = v; lines = l }) ev (el ∙ ap (λ (b : Bool). cond b (Some (lines_of cells)) None) t)
 
-    pub asked-tried : refused ≡ 0 → {b : Bool} → b ≡ is_tried cells p → b ≡ is_tried_at cells p
-    unfolding is_tried_at
-    asked-tried z e = e ∙ rw (eq-eqb (cells_refusal_at cells p) 0 (sym r ∙ z)) refl
-
-  pub tried-asked : cells_refusal_at cells p ≡ 0 → {b : Bool} → b ≡ is_tried_at cells p → b ≡ is_tried cells p
-  unfolding is_tried_at
-  tried-asked z e = e ∙ rw (eq-eqb (cells_refusal_at cells p) 0 z) refl
-
--- no lines are handed over where none is tried
-pub no_lines : (cells : List ℕ) {tried : Bool} {l : List ℕ} → tried ≡ false → l ≡ zeros 144 → l ≡ cond tried (lines_of cells) (zeros 144)
-no_lines cells t e = rw t e
+-- lines that were wanted are handed on
+pub handed : (cells : List ℕ) (wanted : Bool) {l : List ℕ} → l ≡ cond wanted (lines_of cells) (zeros 144)
+    → cond {A = Option (List ℕ)} wanted (Some l) None ≡ cond wanted (Some (lines_of cells)) None
+handed cells true e = ap (λ (x : List ℕ). Some x) e
+handed cells false e = refl

@@ -15,7 +15,8 @@ use Rattle.board.specs.declared.board.Board.{Board}
 use Rattle.board.specs.Boards.{cells, board_of, board_refusal, refusal_at}
 use Rattle.board.proofs.Given.{at-point, board-sound, board-cells}
 use Rattle.referee.specs.Answers.{forbidden_refusal}
-use Rattle.rules.specs.Answers.{verdict_answer}
+use Rattle.rules.specs.Answers.{answer}
+use Rattle.rules.specs.declared.Verdict.{Verdict}
 use Rattle.cells.proofs.Given.{turn-ok}
 
 module _ (v : ℕ) (b : Board) (hv : v < 8) (sound : board_refusal b ≡ 0) where
@@ -38,17 +39,17 @@ module _ (v : ℕ) (b : Board) (hv : v < 8) (sound : board_refusal b ≡ 0) wher
         ap (λ (c : List ℕ). get_or c (turn v p) 0) seen ∙ (turned-cells v (cells b) hv (length-cells_of b.lines)).same p hp
 
     -- the verdict in every view is the same at the turned point
-    pub strict-seen : verdict_answer (refusal_at view (turn v p)) (strict_of (cells view) (turn v p))
-        ≡ verdict_answer (refusal_at b p) (strict_of (cells b) p)
+    pub strict-seen : answer (refusal_at view (turn v p)) (strict_of (cells view) (turn v p))
+        ≡ answer (refusal_at b p) (strict_of (cells b) p)
     strict-seen =
-        ap₂ verdict_answer same-refusal
+        ap₂ (answer {A = Verdict}) same-refusal
         (ap (λ (c : List ℕ). strict_of c (turn v p)) seen ∙ strict-view v (cells b) p hv (length-cells_of b.lines) hp)
 
-    pub plain-seen : verdict_answer (forbidden_refusal view (turn v p)) (plain_of (cells view) (turn v p))
-        ≡ verdict_answer (forbidden_refusal b p) (plain_of (cells b) p)
+    pub plain-seen : answer (forbidden_refusal view (turn v p)) (plain_of (cells view) (turn v p))
+        ≡ answer (forbidden_refusal b p) (plain_of (cells b) p)
     unfolding forbidden_refusal
     plain-seen =
-        ap₂ verdict_answer (ap₂ first same-refusal (ap (λ (x : ℕ). unless (is_empty x) 11) same-cell))
+        ap₂ (answer {A = Verdict}) (ap₂ first same-refusal (ap (λ (x : ℕ). unless (is_empty x) 11) same-cell))
         (ap (λ (c : List ℕ). plain_of c (turn v p)) seen ∙ plain-view v (cells b) p hv (length-cells_of b.lines) hp)
 
   -- and the forbidden list is the turned list

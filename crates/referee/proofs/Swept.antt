@@ -1,12 +1,13 @@
 -- The strict verdict by the marks of the points to ask about: none where there is no mark. Assumes nothing.
 use mathlib.Core.Path.{◌≡◌, refl, ap, sym, subst, ◌∙◌}
 use mathlib.Core.Bool.{Bool, true, false, ◌&&◌}
-use mathlib.Core.List.{List, []}
-use Prim.Native.Nat.{ℕ, zero, suc, ◌+◌, ◌-◌, ◌/◌, ◌%◌, ◌≤◌, ◌<◌}
+use mathlib.Core.List.{List, [], ◌∷◌}
+use Prim.Native.Nat.{ℕ, zero, suc, ◌+◌, ◌*◌, ◌≤◌, ◌<◌}
 use native.Mathlib.Omega.{arith}
 use lib.Dec.{T, eqb}
 use lib.ListN.{get_or, length}
 use borrow.Author.Tests.{eq-eqb}
+use Rattle.rules.specs.Numbers.{verdict_no, is_none}
 use Rattle.rules.specs.Tools.{any_below, gather}
 use Rattle.rules.specs.Bit.{bit}
 use Rattle.rules.specs.Point.{x_of, y_of}
@@ -39,20 +40,18 @@ module _ (cells : List ℕ) (long : length cells ≡ 225) where
         (ap (λ (l : List ℕ). any_below 26 (λ i. bit (get_or l i 0) (x_of p))) (sym em)
         ∙ sym (ap (λ (x : ℕ). bit x (x_of p)) ec ∙ bit_mask 16 (λ x. any_below 26 (λ i. bit (get_or m i 0) x)) (x_of p) (omega arith)) ∙ z))
 
-    pub column-skip : (p : ℕ) → p < 225 → bit columns (p / 15) ≡ false
-        → gather (p - p % 15 + 15) (λ q. entry (strict_of cells q) q) ≡ gather p (λ q. entry (strict_of cells q) q)
-    column-skip p hp z =
-        ap (λ (x : ℕ). gather x (λ q. entry (strict_of cells q) q)) (next p)
-        ∙ gather-skip (λ q. entry (strict_of cells q) q) p (15 - p % 15) (λ i a b.
-        ap (λ (v : Verdict). entry v i) (sym (column-clear i (below i b) (subst (λ (x : ℕ). bit columns x ≡ false) (same i a b) z))))
+    -- .. so the list of the points below column x is that of the points below the next
+    pub column-skip : (x : ℕ) → x < 15 → bit columns x ≡ false
+        → gather (15 * (x + 1)) (λ q. entry (strict_of cells q) q) ≡ gather (15 * x) (λ q. entry (strict_of cells q) q)
+    column-skip x hx z =
+        ap (λ (n : ℕ). gather n (λ q. entry (strict_of cells q) q)) next
+        ∙ gather-skip (λ q. entry (strict_of cells q) q) (15 * x) 15 (λ i a b.
+        ap (λ (v : Verdict). entry v i) (sym (column-clear i (omega arith) (subst (λ (n : ℕ). bit columns n ≡ false) (same i a b) z))))
       where
-        next : (p : ℕ) → p - p % 15 + 15 ≡ p + (15 - p % 15)
-        next p = omega arith
+        next : 15 * (x + 1) ≡ 15 * x + 15
+        next = omega arith
 
-        below : (i : ℕ) → i < p + (15 - p % 15) → i < 225
-        below i h = omega arith
-
-        same : (i : ℕ) → p ≤ i → i < p + (15 - p % 15) → p / 15 ≡ i / 15
+        same : (i : ℕ) → 15 * x ≤ i → i < 15 * x + 15 → x ≡ x_of i
         same i a b = omega arith
 
     -- no mark at all: nothing is forbidden
@@ -81,3 +80,12 @@ marked-free cells p ok hp e =
     free-cell (get_or cells p 0) (ok.small p hp)
     (and_right (eqb (length cells) 225) (is_empty (get_or cells p 0))
     (and_left (eqb (length cells) 225 && is_empty (get_or cells p 0)) (may_forbid cells p) (true-T e)))
+
+-- ---- the entry of a point, by its verdict
+
+module _ {v w : Verdict} {none : Bool} (p : ℕ) (ev : v ≡ w) (en : none ≡ is_none v) where
+  pub kind-entry : {kind : ℕ} → none ≡ false → kind ≡ verdict_no v → entry w p ≡ (kind ∷ p ∷ [])
+  kind-entry k ek = rw (← ev, ← en, k, ek) refl
+
+  pub none-entry : none ≡ true → entry w p ≡ []
+  none-entry k = rw (← ev, ← en, k) refl

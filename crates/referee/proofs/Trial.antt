@@ -1,27 +1,26 @@
 -- The trial stone on a board: put at an empty point of a sound one and taken off again, the board is as it was.
 --     stone-on, stone-off        with the stone put, and with it taken off, the counts are those of the cells
 --     may-ask, may-remove, tried the board with the stone may be asked, and the stone taken off; what the three calls say is what is given
---     may-be-tried, answered, not-tried    where the first says yes, a trial may be made, and answers the second; else the first does
+--     may-be-tried, tried-there, not-tried    where the first says yes, a trial may be made, and answers the second; else the answer is no
 -- Assumes nothing.
 use mathlib.Core.Path.{◌≡◌, refl, ap, sym, subst, ◌∙◌}
-use mathlib.Core.Bool.{Bool, true, false, not, ◌&&◌, cond}
+use mathlib.Core.Bool.{Bool, true, false}
 use mathlib.Core.List.{List}
+use Rattle.std.specs.Prelude.{Result, Ok}
 use Prim.Native.Nat.{ℕ, ◌+◌, ◌-◌, ◌≤◌, ◌<◌}
 use native.Mathlib.Omega.{arith}
-use lib.Dec.{T, eqb}
+use lib.Dec.{eqb}
 use lib.ListN.{get_or, set}
 use lib.Seq.{set-set, set-get_or}
 use borrow.Author.Tests.{eq-eqb, eqb-true}
-use Rattle.rules.specs.Answers.{test_answer}
+use Rattle.rules.specs.Answers.{answer}
 use Rattle.rules.specs.Bit.{digit}
 use Rattle.rules.specs.Grid.{is_empty, remove}
 use Rattle.rules.specs.declared.Player.TheVariants.{Black}
 use Rattle.rules.specs.Forbidden.{with_black, real_double, is_double_three, strict_of, double_three_at}
-use Rattle.rules.specs.declared.answer.TestAnswer.{TestAnswer}
-use Rattle.rules.specs.declared.answer.TestAnswer.TheVariants as test
+use Rattle.rules.specs.declared.refusal.Refusal.{Refusal}
 use Rattle.rules.proofs.Changes.{set_at}
-use Rattle.rules.proofs.Logic.{along, T_true}
-use Rattle.rules.proofs.Refusals.{given, tested}
+use Rattle.rules.proofs.Refusals.{answered}
 use Rattle.rules.proofs.Verdicts.{double-real}
 use Rattle.cells.specs.Cells.{Cells}
 use Rattle.cells.proofs.Given.{put-ok}
@@ -32,7 +31,6 @@ use Rattle.board.specs.Boards.{board_with, cells, board_of, board_refusal, refus
 use Rattle.board.specs.declared.board.Board.{Board}
 use Rattle.board.proofs.Given.{at_none, sound-in, counts-in, board-sound, board-cells, whole-board, counted-board}
 use Rattle.referee.specs.Referee.{HoldsAt}
-use Rattle.referee.specs.Answers.{is_yes}
 
 -- ---- the stone put, and counted: Black has one more; and taken off
 
@@ -90,59 +88,29 @@ module _ (h : Board) (n : ℕ) (held : HoldsAt h n 0) where
 
 -- ---- where it may be made
 
-module _ (refused : ℕ) (e : Bool) {a : TestAnswer} (is : a ≡ test_answer refused e) where
-  yes_both : T (is_yes a) → (refused ≡ 0) × T e
-  unfolding test_answer is_yes
-  yes_both t = go (eqb refused 0) refl (along (ap is_yes is) t)
-    where
-      go : (z : Bool) → eqb refused 0 ≡ z → T (is_yes (cond z (test.Is e) (test.Refused refused))) → (refused ≡ 0) × T e
-      go true q u = (eqb-true refused 0 q, u)
-      go false q u = absurd u
+module _ (h h₁ : Board) (n : ℕ) {a : Result Bool Refusal} {may : Bool}
+    (asked : (a ≡ answer (refusal_at h n) (is_empty (get_or (cells h) n 0))) × (h₁ ≡ h)) (was : a ≡ Ok may) where
+  said : (refusal_at h n ≡ 0) × (may ≡ is_empty (get_or (cells h) n 0))
+  said = answered (refusal_at h n) (is_empty (get_or (cells h) n 0)) asked.0 was
 
-  value : refused ≡ 0 → is_yes a ≡ e
-  unfolding test_answer is_yes
-  value z = ap is_yes is ∙ rw (eq-eqb refused 0 z) refl
-
-  -- where it is no yes, it also answers what holds no more often
-  not_yes : (d : Bool) → T (not (is_yes a)) → (T (not e) → e ≡ d) → a ≡ test_answer refused d
-  unfolding test_answer
-  not_yes d n less = is ∙ given test.Is (test.Refused refused) refused e d (λ z. less (along (ap not (value z)) n))
-
-module _ (h h₁ : Board) (n : ℕ) {a : TestAnswer} {t : Bool}
-    (may : (a ≡ test_answer (refusal_at h n) (is_empty (get_or (cells h) n 0))) × (h₁ ≡ h)) (says : t ≡ is_yes a) where
-  abbrev empty : Bool
-  empty = is_empty (get_or (cells h) n 0)
-
-  free-at : T t → HoldsAt h n 0
+  free-at : may ≡ true → HoldsAt h n 0
   free-at y =
-      let q = yes_both (refusal_at h n) empty may.0 (along says y) in
-      let (sound, hp) = at_none h n q.0 in
-      record { sound = sound; point = hp; value = eqb-true (get_or (cells h) n 0) 0 (empty-cell h.lines n hp ∙ T_true q.1) }
+      let (sound, hp) = at_none h n said.0 in
+      record { sound = sound; point = hp; value = eqb-true (get_or (cells h) n 0) 0 (empty-cell h.lines n hp ∙ sym said.1 ∙ y) }
 
-  pub may-be-tried : T t → HoldsAt h₁ n 0
-  may-be-tried y = subst (λ (k : Board). HoldsAt k n 0) (sym may.1) (free-at y)
+  pub may-be-tried : may ≡ true → HoldsAt h₁ n 0
+  may-be-tried y = subst (λ (k : Board). HoldsAt k n 0) (sym asked.1) (free-at y)
 
-  pub answered : T t → {r : Bool} {h₂ : Board} → (r ≡ real_double strict_of (with_black (cells h₁) n) n) × (h₂ ≡ h₁)
-      → (test.Is r ≡ test_answer (refusal_at h n) (double_three_at (cells h) n)) × (h₂ ≡ h)
-  unfolding double_three_at
-  answered y e =
-      let q = yes_both (refusal_at h n) empty may.0 (along says y) in
-      let held = free-at y in (
-        tested (empty && is_double_three strict_of (cells h) n) refl q.0
-            (e.0 ∙ ap (λ (k : Board). real_double strict_of (with_black (cells k) n) n) may.1
-            ∙ sym (double-real (cells h) n (length-cells_of h.lines) held.point held.value)
-            ∙ ap (λ (x : Bool). x && is_double_three strict_of (cells h) n) (sym (T_true {b = empty} q.1))),
-        e.1 ∙ may.1,
-      )
+  pub tried-there : may ≡ true → {r : Bool} {h₂ : Board} → (r ≡ real_double strict_of (with_black (cells h₁) n) n) × (h₂ ≡ h₁)
+      → (Ok r ≡ answer (refusal_at h n) (double_three_at (cells h) n)) × (h₂ ≡ h)
+  unfolding answer double_three_at
+  tried-there y {r} e =
+      let held = free-at y in
+      let told : r ≡ is_double_three strict_of (cells h) n =
+      e.0 ∙ ap (λ (k : Board). real_double strict_of (with_black (cells k) n) n) asked.1
+      ∙ sym (double-real (cells h) n (length-cells_of h.lines) held.point held.value) in
+      (rw (said.0, sym said.1 ∙ y) (ap (λ (b : Bool). Ok b) told), e.1 ∙ asked.1)
 
-  pub not-tried : T (not t) → (a ≡ test_answer (refusal_at h n) (double_three_at (cells h) n)) × (h₁ ≡ h)
-  unfolding double_three_at
-  not-tried z = (
-    not_yes (refusal_at h n) empty may.0 (empty && is_double_three strict_of (cells h) n)
-        (along (ap not says) z) (λ f. none empty (is_double_three strict_of (cells h) n) f),
-    may.1,
-  )
-    where
-      none : (x y : Bool) → T (not x) → x ≡ (x && y)
-      none true y z = absurd z
-      none false y z = refl
+  pub not-tried : may ≡ false → (Ok false ≡ answer (refusal_at h n) (double_three_at (cells h) n)) × (h₁ ≡ h)
+  unfolding answer double_three_at
+  not-tried z = (rw (said.0, sym said.1 ∙ z) refl, asked.1)

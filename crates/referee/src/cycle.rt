@@ -32,13 +32,13 @@ pub(crate) fn strict(lines: &mut [u16; 144], table: &[u16; 900], code: u8) -> Ve
 
 // .. by the rows that go through the empty point. Here and in `plain` the lines are asked only where more than one Two goes through it.
 #[cycle(questions)]
+#[tactic(auto, unfolding(crate::specs::Referee::strict_by))]
 pub(crate) fn strict_by(lines: &mut [u16; 144], table: &[u16; 900], code: u8, rows: Rows) -> Verdict
     requires { (code < 225) × (T (more_than_one (starts_of rows.twos)) → Triable lines.old code rows.twos)
         × (table.now ≡ addresses) }
     ensures { (result ≡ strict_by lines.old code rows) × (lines.new ≡ lines.old) }
 {
-    let fours = rows.fours;
-    if some_row(fours) {
+    if some_row(rows.fours) {
         return Verdict::None;
     }
     plain(lines, table, code, rows)
@@ -46,24 +46,20 @@ pub(crate) fn strict_by(lines: &mut [u16; 144], table: &[u16; 900], code: u8, ro
 
 // "The plain verdict at an empty p, first that applies". "Nothing is asked after the first kind that applies."
 #[cycle(questions)]
+#[tactic(auto, unfolding(crate::specs::Referee::plain_by))]
 pub(crate) fn plain(lines: &mut [u16; 144], table: &[u16; 900], code: u8, rows: Rows) -> Verdict
     requires { (code < 225) × (T (more_than_one (starts_of rows.twos)) → Triable lines.old code rows.twos)
         × (table.now ≡ addresses) }
     ensures { (result ≡ plain_by lines.old code rows) × (lines.new ≡ lines.old) }
 {
-    let overlinings = rows.overlinings;
-    let swords = rows.swords;
-    let twos = rows.twos;
-    if some_row(overlinings) {
+    if some_row(rows.overlinings) {
         return Verdict::Overline;
     }
-    if more_than_one(swords) {
+    if more_than_one(rows.swords) {
         return Verdict::DoubleFour;
     }
-    if more_than_one(twos) {
-        if trial(lines, table, code, twos) {
-            return Verdict::DoubleThree;
-        }
+    if more_than_one(rows.twos) && trial(lines, table, code, rows.twos) {
+        return Verdict::DoubleThree;
     }
     Verdict::None
 }
@@ -106,18 +102,16 @@ fn open_asked(lines: &mut [u16; 144], table: &[u16; 900], code: u8, seen: Known)
         × (table.now ≡ addresses) }
     ensures { (result ≡ real_double strict_of (cells_of lines.old) code) × (lines.new ≡ lines.old) }
 {
-    let left = seen.left;
-    let sure = seen.sure;
-    let rest = other_starts(left, sure);
+    let rest = other_starts(seen.left, seen.sure);
     let mut known = seen;
+    // stays: the next Three is looked for by its bit, and none is left once it is told
     let mut three = next_unless(is_told(known), rest, 0);
     while three < 64 {
         let real = is_real(lines, table, code, three);
         known = settled(known, three, real);
         three = next_unless(is_told(known), rest, three + 1);
     }
-    let real = known.sure;
-    more_than_one(real)
+    more_than_one(known.sure)
 }
 
 // "a Three is real when its eye completes no black five on that board and the strict verdict there is none, at every level of nesting"
@@ -132,9 +126,5 @@ fn is_real(lines: &mut [u16; 144], table: &[u16; 900], code: u8, three: u8) -> b
 {
     let eye = eye_on(lines, table, code, three);
     let rows = rows_on(lines, table, eye);
-    let eye_fours = rows.fours;
-    if some_row(eye_fours) {
-        return false;
-    }
-    strict_by(lines, table, eye, rows).is_none()
+    !some_row(rows.fours) && strict_by(lines, table, eye, rows).is_none()
 }

@@ -23,12 +23,7 @@ pub(crate) struct Known {
 pub(crate) fn is_told(known: Known) -> bool
     ensures { result ≡ (more_than_one (starts_of known.sure) || not (more_than_one (starts_of known.left))) }
 {
-    let sure = known.sure;
-    let left = known.left;
-    if more_than_one(sure) {
-        return true;
-    }
-    !more_than_one(left)
+    more_than_one(known.sure) || !more_than_one(known.left)
 }
 
 // .. with what was found of the Three of a number.
@@ -72,6 +67,7 @@ pub(crate) fn looked_at(lines: &[u16; 144], table: &[u16; 900], code: u8, threes
         sure: [0; 4],
         left: threes,
     };
+    // stays: the next Three is looked for by its bit, and none is left once it is told
     let mut three = next_start(threes, 0);
     while three < 64 {
         known = looked(lines, table, code, three, known);
@@ -93,8 +89,7 @@ fn looked(lines: &[u16; 144], table: &[u16; 900], code: u8, three: u8, known: Kn
     if is_shut(rows) {
         return settled(known, three, false);
     }
-    let twos = rows.twos;
-    if more_than_one(twos) {
+    if more_than_one(rows.twos) {
         return known;
     }
     settled(known, three, true)
@@ -105,14 +100,5 @@ fn is_shut(rows: Rows) -> bool
     ensures { result ≡ (some_row (starts_of rows.fours) || some_row (starts_of rows.overlinings)
         || more_than_one (starts_of rows.swords)) }
 {
-    let fours = rows.fours;
-    let overlinings = rows.overlinings;
-    let swords = rows.swords;
-    if some_row(fours) {
-        return true;
-    }
-    if some_row(overlinings) {
-        return true;
-    }
-    more_than_one(swords)
+    some_row(rows.fours) || some_row(rows.overlinings) || more_than_one(rows.swords)
 }

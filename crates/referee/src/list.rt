@@ -1,8 +1,6 @@
 // The forbidden list, collected: a point is asked about where what is seen of all points at once leaves something to ask.
-ghost use Rattle.std.specs.Prelude.{◌≡◌, not, ◌<◌, T};
-ghost use Rattle.rules.specs.Numbers.{is_none};
+ghost use Rattle.std.specs.Prelude.{◌≡◌, ◌<◌, T};
 ghost use Rattle.rules.specs.Forbidden.{strict_of, forbidden_list};
-ghost use Rattle.lent.specs.Lists.{Held};
 ghost use Rattle.point.specs.Places.{addresses};
 ghost use Rattle.grid.specs.Lines.{lines_of};
 ghost use Rattle.sweep.specs.Marks.{marks, asked_at};
@@ -11,31 +9,21 @@ ghost use Rattle.cells.specs.Cells.{Cells};
 
 use super::cycle::strict;
 use super::single::{asked_of, lines_if, rows_of};
-use lent::keep;
+use lent::Kept;
 use masks::bit_at;
 use point::addresses;
 use rules::Verdict;
 use sweep::{is_marked, marked_columns, sweep_points};
 
-// At most 225 pairs of a kind and a code, with how many bytes they are.
-#[derive(Clone, Copy)]
-pub(crate) struct Pairs {
-    pub(crate) bytes: [u8; 450],
-    pub(crate) len: usize,
-}
-
-// Each point whose strict verdict is a kind, ascending.
-pub(crate) fn forbidden_pairs(cells: &[u8]) -> Pairs
+// Each point whose strict verdict is a kind, ascending: at most 225 pairs of a kind and a code.
+pub(crate) fn forbidden_pairs(cells: &[u8]) -> Kept<450>
     requires { Cells cells.now }
-    ensures { Held 450 (forbidden_list cells.now) result.bytes result.len }
+    ensures { result ≡ forbidden_list cells.now }
 {
     let asked = sweep_points(cells);
     let columns = marked_columns(&asked);
     if columns == 0 {
-        return Pairs {
-            bytes: [0; 450],
-            len: 0,
-        };
+        return Kept::new();
     }
     let table = addresses();
     let built = are_many(columns);
@@ -57,24 +45,24 @@ fn asked_pairs(
     built: bool,
     asked: &[u16; 26],
     columns: u16,
-) -> Pairs
+) -> Kept<450>
     requires { Cells cells.now × (T built → lines.old ≡ lines_of cells.now) × (asked.now ≡ marks (asked_at cells.now))
         × (columns ≡ columns_of asked.now) × (table.now ≡ addresses) }
-    ensures { Held 450 (forbidden_list cells.now) result.bytes result.len }
+    ensures { result ≡ forbidden_list cells.now }
 {
-    let mut bytes = [0u8; 450];
-    let mut n = 0usize;
-    let mut p = 0u8;
-    while p < 225 {
-        if bit_at(columns, p / 15) {
-            let verdict = verdict_at(cells, lines, table, built, asked, p);
-            n = keep(&mut bytes, n, is_kind(verdict), &[verdict.number(), p]);
-            p += 1;
-        } else {
-            p = p - p % 15 + 15;
+    let mut found = Kept::new();
+    for x in 0..15u8 {
+        if bit_at(columns, x) {
+            for y in 0..15u8 {
+                let code = 15 * x + y;
+                let verdict = verdict_at(cells, lines, table, built, asked, code);
+                if !verdict.is_none() {
+                    found.keep(&[verdict.number(), code]);
+                }
+            }
         }
     }
-    Pairs { bytes, len: n }
+    found
 }
 
 // The strict verdict at a point: asked where it is marked, which is an empty point, else none.
@@ -97,15 +85,4 @@ fn verdict_at(
         return asked_of(cells, table, code, rows_of(cells, code));
     }
     Verdict::None
-}
-
-fn is_kind(verdict: Verdict) -> bool
-    ensures { result ≡ not (is_none verdict) }
-{
-    match verdict {
-        Verdict::None => false,
-        Verdict::DoubleThree => true,
-        Verdict::DoubleFour => true,
-        Verdict::Overline => true,
-    }
 }

@@ -17,9 +17,7 @@ pub(crate) fn rows_on(lines: &[u16; 144], table: &[u16; 900], code: u8) -> Rows
     ensures { RowsAre (black_rows (cells_of lines.now) code) result }
 {
     let stones = stones_by(lines, table, code, Player::Black);
-    let blacks = stones.own;
-    let whites = stones.other;
-    black_rows_near(blacks, whites, code)
+    black_rows_near(stones.own, stones.other, code)
 }
 
 // The plain verdict at an empty point.

@@ -1,72 +1,69 @@
 // The strict verdict of cell bytes with the lines on which it was asked, for whoever asks further there.
-ghost use Rattle.std.specs.Prelude.{◌≡◌, false, cond, ◌<◌};
-ghost use Rattle.rules.specs.Answers.{verdict_answer};
-ghost use Rattle.rules.specs.Forbidden.{strict_of};
-ghost use Rattle.lent.specs.Lists.{zeros};
+ghost use Rattle.std.specs.Prelude.{◌≡◌, cond, ◌<◌, Option, Some, None};
+ghost use Rattle.rules.specs.Answers.{answer};
 ghost use Rattle.grid.specs.Lines.{lines_of};
 ghost use Rattle.cells.specs.Cells.{Cells, cells_refusal_at};
-ghost use Rattle.referee.specs.Answers.{is_tried, is_tried_at};
+ghost use Rattle.referee.specs.Answers.{is_tried, ruling_of};
 
 use super::cycle::strict_by;
 use super::single::{lines_if, may_forbid, rows_of};
 use cells::cells_refusal_at;
 use near::more_than_one;
 use point::addresses;
-use rules::{Verdict, VerdictAnswer};
+use rules::{Refusal, Verdict};
 
-// A verdict, and whether a stone may have been tried for it: then the stored lines are there, else zeros.
+// A verdict, and where a stone may have been tried for it the stored lines.
 #[derive(Clone, Copy)]
 pub struct Ruling {
-    pub answer: VerdictAnswer,
-    pub tried: bool,
-    pub lines: [u16; 144],
+    pub verdict: Verdict,
+    pub lines: Option<[u16; 144]>,
 }
 
 // .. at a point. The verdict alone is faster by `forbidden_strict_of`, which hands no lines over.
-pub fn ruling_of(cells: &[u8], code: u8) -> Ruling
-    ensures { (result.answer ≡ verdict_answer (cells_refusal_at cells.now code) (strict_of cells.now code))
-        × (result.tried ≡ is_tried_at cells.now code)
-        × (result.lines ≡ cond result.tried (lines_of cells.now) (zeros 144)) }
+#[tactic(auto, unfolding(rules::specs::Answers::answer))]
+pub fn ruling_of(cells: &[u8], code: u8) -> Result<Ruling, Refusal>
+    ensures { result ≡ answer (cells_refusal_at cells.now code) (ruling_of cells.now code) }
 {
-    let refused = cells_refusal_at(cells, code);
-    if refused != 0 {
-        return untried(VerdictAnswer::Refused(refused));
-    }
-    ruled_of(cells, code)
+    cells_refusal_at(cells, code)?;
+    Ok(ruled_of(cells, code))
 }
 
 // .. of the cells of a board.
+#[tactic(auto, unfolding(crate::specs::Answers::ruling_of))]
 fn ruled_of(cells: &[u8], code: u8) -> Ruling
     requires { Cells cells.now × (code < 225) }
-    ensures { (result.answer ≡ verdict_answer 0 (strict_of cells.now code))
-        × (result.tried ≡ is_tried cells.now code)
-        × (result.lines ≡ cond result.tried (lines_of cells.now) (zeros 144)) }
+    ensures { result ≡ ruling_of cells.now code }
 {
     if cells[code as usize] != 0 {
-        return untried(VerdictAnswer::Is(Verdict::None));
+        return untried();
     }
     let rows = rows_of(cells, code);
     if may_forbid(rows) {
         let table = addresses();
-        let twos = rows.twos;
-        let tried = more_than_one(twos);
+        let tried = more_than_one(rows.twos);
         let mut lines = lines_if(tried, cells, &table);
         let verdict = strict_by(&mut lines, &table, code, rows);
         return Ruling {
-            answer: VerdictAnswer::Is(verdict),
-            tried,
-            lines,
+            verdict,
+            lines: handed_on(tried, lines),
         };
     }
-    untried(VerdictAnswer::Is(Verdict::None))
+    untried()
 }
 
-fn untried(answer: VerdictAnswer) -> Ruling
-    ensures { (result.answer ≡ answer) × (result.tried ≡ false) × (result.lines ≡ zeros 144) }
+// The lines, where a stone may have been tried on them.
+fn handed_on(tried: bool, lines: [u16; 144]) -> Option<[u16; 144]>
+    ensures { result ≡ cond tried (Some lines) None }
+{
+    if tried { Some(lines) } else { None }
+}
+
+// No kind, and no stone was tried.
+fn untried() -> Ruling
+    ensures { (result.verdict ≡ Verdict.None) × (result.lines ≡ None) }
 {
     Ruling {
-        answer,
-        tried: false,
-        lines: [0; 144],
+        verdict: Verdict::None,
+        lines: None,
     }
 }

@@ -47,8 +47,7 @@ pub(crate) fn asked_of(cells: &[u8], table: &[u16; 900], code: u8, rows: Rows) -
         × (table.now ≡ addresses) }
     ensures { result ≡ strict_of cells.now code }
 {
-    let twos = rows.twos;
-    let mut lines = lines_if(more_than_one(twos), cells, table);
+    let mut lines = lines_if(more_than_one(rows.twos), cells, table);
     strict_by(&mut lines, table, code, rows)
 }
 
@@ -69,16 +68,7 @@ pub(crate) fn may_forbid(rows: Rows) -> bool
     ensures { result ≡ (some_row (starts_of rows.overlinings) || more_than_one (starts_of rows.swords)
         || more_than_one (starts_of rows.twos)) }
 {
-    let overlinings = rows.overlinings;
-    let swords = rows.swords;
-    let twos = rows.twos;
-    if some_row(overlinings) {
-        return true;
-    }
-    if more_than_one(swords) {
-        return true;
-    }
-    more_than_one(twos)
+    some_row(rows.overlinings) || more_than_one(rows.swords) || more_than_one(rows.twos)
 }
 
 // Black's rows through a point of the cells.
@@ -110,11 +100,9 @@ fn read_along(cells: &[u8], d: u8, code: u8) -> LineCells
     let back = (cell_no(d, code) as usize) * step;
     let mut p = (code as usize) - back + (size as usize) * step;
     let mut both = 0u32;
-    let mut j = size;
-    while 0 < j {
+    for _ in 0..size {
         p -= step;
         both = both * 2 + in_halves(cells[p]);
-        j -= 1;
     }
     LineCells {
         blacks: (both % 65536) as u16,

@@ -17,10 +17,10 @@ mod words;
 ghost use Rattle.std.specs.Prelude.{◌≡◌};
 ghost use Rattle.records.specs.Tallies.{total};
 
-use game::{GameReport, referee_game};
+use game::referee_game;
 use lent::head;
-use records::{byte_at, line_at, next_line, read_records, room, sum};
-use rules::CountAnswer;
+use records::{byte_at, read_records, room, sum};
+use rules::Refusal;
 use text::read_points;
 use words::{say_fault, say_refused, say_tally, say_winner};
 
@@ -44,45 +44,36 @@ fn referee_all<R: Print>(rt: &R, games: &[u8]) {
         faulty: 0,
         refused: 0,
     };
-    let mut at = 0;
-    while at < games.len() {
-        tally = referee_line(rt, tally, line_at(games, at));
-        at = next_line(games, at);
+    for line in games.split_inclusive(|&byte| byte == b'\n') {
+        tally = referee_line(rt, tally, line.strip_suffix(b"\n").unwrap_or(line));
     }
     say_tally(rt, tally);
 }
 
-// One line more: read, refereed, reported and counted. A text has at most 4,097 points.
+// One line more, with its line of report.
 fn referee_line<R: Print>(rt: &R, before: Tally, line: &[u8]) -> Tally {
+    match report_line(rt, line) {
+        Ok(faulty) => counted(before, faulty as u64, 0),
+        Err(refusal) => {
+            say_refused(rt, refusal);
+            counted(before, 0, 1)
+        }
+    }
+}
+
+// A line read, refereed and reported: whether it has a faulty move, or why it is refused. A text has at most 4,097 points.
+fn report_line<R: Print>(rt: &R, line: &[u8]) -> Result<bool, Refusal> {
     let mut codes = [0u8; 4097];
-    match read_points(line, &mut codes) {
-        CountAnswer::Is(n) => referee_codes(rt, before, &codes, n),
-        CountAnswer::Refused(number) => refused(rt, before, number),
+    let n = read_points(line, &mut codes)?;
+    let moves = head(&codes, n as usize);
+    let report = referee_game(moves)?;
+    let faulty = report.number != 0;
+    if faulty {
+        say_fault(rt, &report, byte_at(moves, (report.number - 1) as usize));
+    } else {
+        say_winner(rt, report.winner);
     }
-}
-
-// The first n codes are the game. (The reference to an array gives its length, which the array itself has lost once it was lent.)
-fn referee_codes<R: Print>(rt: &R, before: Tally, codes: &[u8; 4097], n: u16) -> Tally {
-    let moves = head(codes, n as usize);
-    report_game(rt, before, moves, referee_game(moves))
-}
-
-fn report_game<R: Print>(rt: &R, before: Tally, moves: &[u8], report: GameReport) -> Tally {
-    if report.refused != 0 {
-        return refused(rt, before, report.refused);
-    }
-    if report.number == 0 {
-        let winner = report.winner;
-        say_winner(rt, winner);
-        return counted(before, 0, 0);
-    }
-    say_fault(rt, report, byte_at(moves, (report.number - 1) as usize));
-    counted(before, 1, 0)
-}
-
-fn refused<R: Print>(rt: &R, before: Tally, number: u8) -> Tally {
-    say_refused(rt, number);
-    counted(before, 0, 1)
+    Ok(faulty)
 }
 
 fn counted(before: Tally, faulty: u64, refused: u64) -> Tally

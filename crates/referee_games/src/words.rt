@@ -1,75 +1,55 @@
 // A game's line of report, and the counts, in words.
 use super::Tally;
 use board::Board;
-use display::{Label, point_label};
+use display::point_label;
 use game::{GameReport, Reason, Winner};
-use lent::head;
-use records::{say, say_number};
 use referee::forbidden_strict;
-use rules::{Verdict, VerdictAnswer};
+use rules::Refusal;
 
 // `move 9 (H8): forbidden, DoubleThree`: the point is that of the faulty move.
-pub(crate) fn say_fault<R: Print>(rt: &R, report: GameReport, code: u8) {
-    say(rt, b"move ");
-    say_number(rt, report.number as u64);
-    say(rt, b" (");
-    say_label(rt, point_label(code));
-    say(rt, b"): ");
-    let reason = report.reason;
-    match reason {
-        Reason::None => say(rt, b"no fault"),
-        Reason::Occupied => say(rt, b"occupied"),
+pub(crate) fn say_fault<R: Print>(rt: &R, report: &GameReport, code: u8) {
+    let _ = print!(rt; "move {} (", report.number);
+    let _ = rt.write_all(point_label(code).as_slice());
+    let _ = print!(rt; "): ");
+    match report.reason {
+        Reason::None => say_line(rt, "no fault"),
+        Reason::Occupied => say_line(rt, "occupied"),
         Reason::Forbidden => say_kind(rt, report.board, code),
-        Reason::AfterFive => say(rt, b"after a five"),
+        Reason::AfterFive => say_line(rt, "after a five"),
     }
-    say(rt, b"\n");
 }
 
-fn say_label<R: Print>(rt: &R, label: Label) {
-    let bytes = label.bytes;
-    say(rt, head(&bytes, label.len));
+fn say_line<R: Print>(rt: &R, words: &str) {
+    let _ = println!(rt; "{words}");
 }
 
 // The kind is that of the strict verdict on the board handed back, the one before the move.
 fn say_kind<R: Print>(rt: &R, board: Board, code: u8) {
-    say(rt, b"forbidden, ");
+    let _ = print!(rt; "forbidden, ");
     match forbidden_strict(board, code) {
-        VerdictAnswer::Is(verdict) => say_verdict(rt, verdict),
-        VerdictAnswer::Refused(number) => say_refused(rt, number),
-    }
-}
-
-fn say_verdict<R: Print>(rt: &R, verdict: Verdict) {
-    match verdict {
-        Verdict::None => say(rt, b"None"),
-        Verdict::DoubleThree => say(rt, b"DoubleThree"),
-        Verdict::DoubleFour => say(rt, b"DoubleFour"),
-        Verdict::Overline => say(rt, b"Overline"),
+        Ok(verdict) => {
+            let _ = println!(rt; "{verdict:?}");
+        }
+        Err(refusal) => say_refused(rt, refusal),
     }
 }
 
 pub(crate) fn say_winner<R: Print>(rt: &R, winner: Winner) {
-    say(rt, b"no fault, ");
-    match winner {
-        Winner::None => say(rt, b"nobody"),
-        Winner::Black => say(rt, b"Black"),
-        Winner::White => say(rt, b"White"),
-    }
-    say(rt, b" has won\n");
+    let name = match winner {
+        Winner::None => "nobody",
+        Winner::Black => "Black",
+        Winner::White => "White",
+    };
+    let _ = println!(rt; "no fault, {name} has won");
 }
 
-pub(crate) fn say_refused<R: Print>(rt: &R, number: u8) {
-    say(rt, b"refused ");
-    say_number(rt, number as u64);
-    say(rt, b"\n");
+pub(crate) fn say_refused<R: Print>(rt: &R, refusal: Refusal) {
+    let _ = println!(rt; "{refusal}");
 }
 
 pub(crate) fn say_tally<R: Print>(rt: &R, tally: Tally) {
-    say(rt, b"games ");
-    say_number(rt, tally.games);
-    say(rt, b", faulty ");
-    say_number(rt, tally.faulty);
-    say(rt, b", refused ");
-    say_number(rt, tally.refused);
-    say(rt, b"\n");
+    let _ = println!(rt;
+        "games {}, faulty {}, refused {}",
+        tally.games, tally.faulty, tally.refused
+    );
 }

@@ -14,7 +14,7 @@ use denote.Ref.{Bor}
 use denote.MutBor.{MutBor}
 use Rattle.rules.specs.Numbers.{player_of, kind_of}
 use Rattle.rules.specs.Refusals.{occupied, unless, first, code_refusal, colour_refusal, kind_refusal}
-use Rattle.rules.specs.Answers.{verdict_answer}
+use Rattle.rules.specs.Answers.{answer}
 use Rattle.rules.specs.Grid.{is_empty, rows_of, rows_on_point, four_eyes}
 use Rattle.rules.specs.Forbidden.{plain_of, strict_of, forbidden_list}
 use Rattle.rules.proofs.Logic.{decide}
@@ -231,10 +231,10 @@ module _ (b : Board) (sound : board_refusal b ≡ 0) (c : Bor (List ℕ)) (same 
         (referee-forbidden.Post κs (b, (code, tt)))
         (second-forbidden.Post κs' (c, (code, tt)))
     board-forbidden-equal r r' s s' =
-        one_answer verdict_answer (forbidden-alike b c.now none-refused (sym same) code) (ap (λ (x : List ℕ). plain_of x code) (sym same))
+        one_answer answer (forbidden-alike b c.now none-refused (sym same) code) (ap (λ (x : List ℕ). plain_of x code) (sym same))
 
     pub board-forbidden-strict-equal : SameAnswer
         (referee-forbidden-strict.Post κs (b, (code, tt)))
         (second-forbidden-strict.Post κs' (c, (code, tt)))
     board-forbidden-strict-equal r r' s s' =
-        one_answer verdict_answer (at-alike b c.now none-refused code) (ap (λ (x : List ℕ). strict_of x code) (sym same))
+        one_answer answer (at-alike b c.now none-refused code) (ap (λ (x : List ℕ). strict_of x code) (sym same))

@@ -1,37 +1,31 @@
 -- A game's report handed out: its board's cells are those of the moves before the fault, its bytes those of the report, or nothing is
 -- written. Assumes nothing.
 use mathlib.Core.Path.{◌≡◌, refl, sym, ap, ap₂, ◌∙◌}
-use mathlib.Core.Bool.{true, false}
-use mathlib.Core.Logic.{◌⊎◌, inl, inr}
+use mathlib.Core.Bool.{Bool, true, false}
 use mathlib.Core.List.{List, [], ◌++◌}
-use Prim.Native.Nat.{ℕ, zero, suc, ◌+◌, ◌-◌, ◌<◌}
+use Prim.Native.Nat.{ℕ, zero, suc, ◌+◌, ◌-◌, ◌≤◌, ◌<◌}
 use native.Mathlib.Omega.{arith}
 use lib.Dec.{eqb, leb, ltb}
 use lib.ListN.{length, get_or, take, length-append, length-take}
 use lib.Seq.{get_or-take}
-use borrow.Author.Tests.{eqb-true, eqb-false, ne_eqb, lt-ltb}
-use Rattle.rules.specs.Refusals.{many_moves, unless}
+use borrow.Author.Tests.{lt-ltb, eqb-false}
+use Rattle.std.specs.Prelude.{Result, Ok, Err}
+use Rattle.rules.specs.Refusals.{many_moves, unless, first}
+use Rattle.rules.specs.Answers.{answer, checked, refusal_named}
+use Rattle.rules.specs.declared.refusal.Refusal.{Refusal}
 use Rattle.rules.specs.Tools.{all_below}
-use Rattle.rules.proofs.Logic.{decide, true-T, all-intro}
+use Rattle.rules.proofs.Logic.{true-T, all-intro}
 use Rattle.rules.proofs.Refusals.{first-none, pass}
-use Rattle.lent.specs.Lists.{zeros, Held, kept_to, kept_in, list_refusal, list_out}
-use Rattle.lent.proofs.Laws.{wrote_none, wrote-keep, wrote-held, held-take, kept_out, length-zeros}
+use Rattle.lent.specs.Lists.{kept, list_refusal, list_out}
+use Rattle.lent.proofs.Laws.{kept_lem, kept_out}
 use Rattle.cells.specs.Cells.{codes_refusal, moves_refusal, moves_cells}
-use Rattle.cells.specs.Answers.{cells_answer}
-use Rattle.cells.specs.declared.answer.CellsAnswer.{CellsAnswer}
 use Rattle.cells.proofs.Given.{moves-in}
 use Rattle.game.specs.Game.{report_of}
-use Rattle.game.specs.Answers.{game_report}
+use Rattle.game.specs.Answers.{reported}
 use Rattle.game.specs.declared.report.GameReport.{GameReport}
 use Rattle.game.proofs.Faults.{no-fault-board, fault-board}
-use Rattle.game.proofs.Given.{answer-refused}
-use Rattle.renju.specs.Answers.{word}
+use Rattle.renju.proofs.Words.{told_err, told_ok}
 use Rattle.renju.specs.Games.{standing, report_bytes, game_bytes}
-
--- a refusal that is given is told whatever the answer would have been
-word-refused : (refused n m : ℕ) → (refused ≡ 0 → ⊥) → word refused n ≡ word refused m
-unfolding word
-word-refused refused n m h = rw (ne_eqb refused 0 h)
 
 -- ---- the cells of a report's board are those of the moves before the fault, or of all
 
@@ -59,84 +53,53 @@ pub standing-some : (n : ℕ) (moves : List ℕ) → (n ≡ 0 → ⊥) → take 
 standing-some zero moves h = absurd (h refl)
 standing-some (suc n) moves h = let q : suc n - 1 ≡ n = omega arith in ap (λ (k : ℕ). take k moves) q
 
--- ---- the bytes of an answer
+-- .. whose codes are not refused
+pub never-refused : (moves : List ℕ) (n : ℕ) {a : Result (List ℕ) Refusal} {x : Refusal} → moves_refusal moves ≡ 0
+    → a ≡ answer (codes_refusal (standing n moves)) (moves_cells (standing n moves)) → a ≡ Err x → ⊥
+unfolding answer
+never-refused moves n e ea told =
+    let z : Ok (moves_cells (standing n moves)) ≡ Err _ = sym (rw (codes-standing moves n e) at ea) ∙ told in cc
 
-module _ (moves out : List ℕ) (answer : GameReport) (e : answer ≡ game_report (moves_refusal moves) (report_of moves))
-    (played : CellsAnswer)
-    (p : played ≡ cells_answer (codes_refusal (standing answer.number moves)) (moves_cells (standing answer.number moves)))
-  where
-    bytes_in : List ℕ
-    bytes_in = report_bytes answer.number answer.reason answer.winner played.cells
+-- ---- the bytes of a report
 
-    told : answer.refused ≡ moves_refusal moves
-    told = ap (λ (a : GameReport). a.refused) e ∙ answer-refused (moves_refusal moves) (report_of moves)
+pub bytes-given : (moves : List ℕ) {report : GameReport} {cells : List ℕ} → report ≡ reported (report_of moves)
+    → cells ≡ moves_cells (standing report.number moves)
+    → report_bytes report.number report.reason report.winner cells ≡ game_bytes moves
+unfolding game_bytes reported
+bytes-given moves {report} {cells} e ec =
+    let number : (report_of moves).number ≡ report.number = ap (λ (r : GameReport). r.number) (sym e) in
+    ap (report_bytes report.number report.reason report.winner) (ec ∙ sym (report-cells moves report.number number))
+    ∙ ap (λ (r : GameReport). report_bytes r.number r.reason r.winner (report_of moves).cells) e
 
-    module _ (none : moves_refusal moves ≡ 0) where
-      is-report : answer ≡ game_report 0 (report_of moves)
-      is-report = e ∙ ap (λ (n : ℕ). game_report n (report_of moves)) none
+-- three bytes and 225 cells, kept one after the other
+pub bytes-kept : (head tail : List ℕ) {none one all : List ℕ} → length head ≡ 3 → length tail ≡ 225 → none ≡ [] → one ≡ kept 228 none head
+    → all ≡ kept 228 one tail → all ≡ head ++ tail
+bytes-kept head tail h t z one all =
+    all ∙ rw (one, z, kept_lem 228 [] head (omega arith)) (kept_lem 228 head tail (omega arith))
 
-      number-given : answer.number ≡ (report_of moves).number
-      unfolding game_report
-      number-given = ap (λ (a : GameReport). a.number) is-report
+-- ---- what is handed out of it
 
-      cells-given : played.cells ≡ (report_of moves).cells
-      unfolding cells_answer
-      cells-given =
-          ap (λ (a : CellsAnswer). a.cells) p ∙ rw (codes-standing moves answer.number none)
-          (sym (report-cells moves answer.number (sym number-given)))
+module _ {A B : Type 0} (told : ℕ) (out l : List ℕ) (v : A) {r : Result A Refusal} {x : Refusal} where
+  -- it was refused before
+  pub refused-out : (w : B) → answer told w ≡ Err x → r ≡ Err x → (r ≡ answer (list_refusal told out l) v) × (out ≡ list_out told out l)
+  unfolding answer
+  refused-out w e k = go (eqb told 0) refl
+    where
+      go : (t : Bool) → eqb told 0 ≡ t → (r ≡ answer (list_refusal told out l) v) × (out ≡ list_out told out l)
+      go true q = let z : Ok w ≡ Err x = rw q at e in cc
+      go false q =
+          let o = kept_out told out l (eqb-false told 0 q) in
+          let z : Err (refusal_named told) ≡ Err x = rw q at e in
+          let s : x ≡ refusal_named told = cc in
+          (k ∙ rw (o.0, q, s), o.1)
 
-      bytes-given : bytes_in ≡ game_bytes moves
-      unfolding bytes_in game_bytes game_report
-      bytes-given =
-          ap (λ (a : GameReport). report_bytes a.number a.reason a.winner played.cells) is-report
-          ∙ ap (report_bytes (report_of moves).number (report_of moves).reason (report_of moves).winner) cells-given
+-- it is written, or there is no room
+module _ (moves out : List ℕ) (none : moves_refusal moves ≡ 0) {bytes : List ℕ} (is : bytes ≡ game_bytes moves) {w : Result Unit Refusal}
+    {out' : List ℕ} (told : (w ≡ checked (list_refusal 0 out bytes)) × (out' ≡ list_out 0 out bytes)) (v : ℕ) where
+  pub unwritten : {r : Result ℕ Refusal} {x : Refusal} → w ≡ Err x → r ≡ Err x
+      → (r ≡ answer (list_refusal (moves_refusal moves) out (game_bytes moves)) v) × (out' ≡ list_out (moves_refusal moves) out (game_bytes moves))
+  unwritten e k = rw (none, sym is) (told_err (list_refusal 0 out bytes) tt v told.0 e k, told.1)
 
-    pub report-out : (bytes : List ℕ) → Held 228 (report_bytes answer.number answer.reason answer.winner played.cells) bytes 228
-        → {r refused : ℕ} {out' : List ℕ}
-        → (refused ≡ list_refusal answer.refused out (take 228 bytes)) × (out' ≡ list_out answer.refused out (take 228 bytes))
-        → r ≡ word refused answer.number
-        → (r ≡ word (list_refusal (moves_refusal moves) out (game_bytes moves)) (report_of moves).number)
-        × (out' ≡ list_out (moves_refusal moves) out (game_bytes moves))
-    unfolding bytes_in
-    report-out bytes held {r} {refused} {out'} wrote er = go (decide (eqb (moves_refusal moves) 0))
-      where
-        whole : take 228 bytes ≡ bytes_in
-        whole = held-take 228 held
-
-        first : refused ≡ list_refusal (moves_refusal moves) out bytes_in
-        first = wrote.0 ∙ ap₂ (λ (x : ℕ) (y : List ℕ). list_refusal x out y) told whole
-
-        second : out' ≡ list_out (moves_refusal moves) out bytes_in
-        second = wrote.1 ∙ ap₂ (λ (x : ℕ) (y : List ℕ). list_out x out y) told whole
-
-        go : (eqb (moves_refusal moves) 0 ≡ true) ⊎ (eqb (moves_refusal moves) 0 ≡ false)
-            → (r ≡ word (list_refusal (moves_refusal moves) out (game_bytes moves)) (report_of moves).number)
-            × (out' ≡ list_out (moves_refusal moves) out (game_bytes moves))
-        go (inl t) =
-            let none = eqb-true (moves_refusal moves) 0 t in (
-              er ∙ ap₂ word (first ∙ ap (list_refusal (moves_refusal moves) out) (bytes-given none)) (number-given none),
-              second ∙ ap (list_out (moves_refusal moves) out) (bytes-given none),
-            )
-        go (inr t) =
-            let given = eqb-false (moves_refusal moves) 0 t in
-            let a = kept_out (moves_refusal moves) out bytes_in given in
-            let b = kept_out (moves_refusal moves) out (game_bytes moves) given in (
-              er ∙ ap (λ (x : ℕ). word x answer.number) (first ∙ a.0)
-                  ∙ word-refused (moves_refusal moves) answer.number (report_of moves).number given
-                  ∙ ap (λ (x : ℕ). word x (report_of moves).number) (sym b.0),
-              second ∙ sym a.1 ∙ b.1,
-            )
-
--- ---- three bytes and 225 cells, kept one after the other in a buffer of 228
-
-pub bytes-held : (head tail buf buf' : List ℕ) (n m : ℕ) → length head ≡ 3 → length tail ≡ 225
-    → (n ≡ kept_to (zeros 228) 0 true head) × (buf ≡ kept_in (zeros 228) 0 true head)
-    → (m ≡ kept_to buf n true tail) × (buf' ≡ kept_in buf n true tail)
-    → Held 228 (head ++ tail) buf' 228
-bytes-held head tail buf buf' n m h3 h225 one two =
-    let room = length-zeros 228 in
-    let long : length (head ++ tail) ≡ 228 = length-append head tail ∙ ap₂ ◌+◌ h3 h225 in
-    let first = wrote-keep (zeros 228) 0 [] (zeros 228) 0 true head n buf (wrote_none (zeros 228) 0) (omega arith) one in
-    let all = wrote-keep (zeros 228) 0 head buf n true tail m buf' first (omega arith) two in
-    let held = wrote-held 228 (head ++ tail) buf' m all (omega arith) in
-    record { buffer = held.buffer; count = sym long }
+  pub written_out : {n : ℕ} → w ≡ Ok tt → n ≡ v
+      → (Ok n ≡ answer (list_refusal (moves_refusal moves) out (game_bytes moves)) v) × (out' ≡ list_out (moves_refusal moves) out (game_bytes moves))
+  written_out {n} e same = rw (none, sym is) (ap (λ (k : ℕ). Ok k) same ∙ told_ok (list_refusal 0 out bytes) tt v told.0 e, told.1)

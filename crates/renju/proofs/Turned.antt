@@ -16,8 +16,8 @@ use denote.Ref.{Bor}
 use denote.MutBor.{MutBor}
 use Rattle.rules.specs.Refusals.{no_room, unless, first, view_refusal}
 use Rattle.rules.specs.Views.{turn_cells, undo, then_view}
-use Rattle.rules.specs.Answers.{number_answer}
-use Rattle.rules.specs.declared.answer.NumberAnswer.TheVariants as number
+use Rattle.std.specs.Prelude.{Ok}
+use Rattle.rules.specs.Answers.{answer}
 use Rattle.rules.proofs.Logic.{decide}
 use Rattle.rules.proofs.Refusals.{first-none, none_first}
 use Rattle.rules.proofs.Turns.{undo-lt}
@@ -61,8 +61,8 @@ given-list refused out a r out' small h =
 
 -- ---- views that were not refused: what `point` says of its own answer
 
-answered : (refused n u : ℕ) → (refused ≡ 0) × (u ≡ n) → number.Is u ≡ number_answer refused n
-unfolding number_answer
+answered : (refused n u : ℕ) → (refused ≡ 0) × (u ≡ n) → Ok u ≡ answer refused n
+unfolding answer
 answered refused n u (none, is) = rw (none, is)
 
 then-given : (κ : Lfts 0) (v w u : ℕ) → u < 65536 → Gave (renju-view-then.Post κ (v, (w, tt))) u → Followed v w u

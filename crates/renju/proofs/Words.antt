@@ -1,97 +1,62 @@
 -- The number of an answer is that of its refusal and its value; lists refused and handed out. Assumes nothing.
-use mathlib.Core.Path.{◌≡◌, refl, ap, ap₂, sym, ◌∙◌}
-use mathlib.Core.Bool.{true, false, cond}
-use mathlib.Core.Logic.{◌⊎◌, inl, inr}
+use mathlib.Core.Path.{◌≡◌, refl, ap, sym, ◌∙◌}
+use mathlib.Core.Bool.{Bool, true, false}
 use mathlib.Core.List.{List}
-use Prim.Native.Nat.{ℕ, ◌*◌, ◌/◌}
+use Prim.Native.Nat.{ℕ, ◌*◌, ◌/◌, ◌≤◌}
 use lib.Dec.{eqb}
 use lib.ListN.{length}
-use borrow.Author.Tests.{ne_eqb}
-use Rattle.rules.specs.Numbers.{verdict_no}
-use Rattle.rules.specs.Answers.{count_answer, mask_answer, number_answer, verdict_answer}
-use Rattle.rules.specs.declared.Verdict.{Verdict}
-use Rattle.rules.specs.declared.answer.CountAnswer.{CountAnswer}
-use Rattle.rules.specs.declared.answer.CountAnswer.TheVariants as count
-use Rattle.rules.specs.declared.answer.MaskAnswer.TheVariants as mask
-use Rattle.rules.specs.declared.answer.NumberAnswer.TheVariants as number
-use Rattle.rules.proofs.Logic.{decide}
+use borrow.Author.Tests.{eqb-false}
+use Rattle.std.specs.Prelude.{Result, Ok, Err}
+use Rattle.rules.specs.Answers.{answer, refusal_named}
+use Rattle.rules.specs.declared.refusal.Refusal.{Refusal}
+use Rattle.rules.proofs.Refusals.{answered}
 use Rattle.lent.specs.Lists.{list_refusal, list_out, counted}
-use Rattle.lent.proofs.Laws.{kept_out}
-use Rattle.rules.specs.declared.answer.VerdictAnswer.TheVariants as verdict
-use Rattle.display.specs.Answers.{length_answer, written}
-use Rattle.display.specs.declared.answer.LengthAnswer.{LengthAnswer}
-use Rattle.display.specs.declared.answer.LengthAnswer.TheVariants as length-is
-use Rattle.renju.specs.Answers.{word, count_word, mask_word, number_word, verdict_word, length_word, list_word}
+use Rattle.renju.specs.Answers.{word, word_of, list_word}
+use Rattle.renju.proofs.Named.{named_back, list_named}
 
--- ---- the number of an answer, whatever its type
-
-pub word_of : {A : Type 0} (w : A → ℕ) (a b : A) (refused n : ℕ) → w a ≡ word 0 n → w b ≡ word refused 0
-    → w (cond (eqb refused 0) a b) ≡ word refused n
-unfolding word
-word_of w a b refused n p q = go (decide (eqb refused 0))
+-- an answer, by what its value means as a number
+pub word_given : {A : Type 0} (low : A → ℕ) (n : ℕ) (v : A) {a : Result A Refusal} {r : ℕ} → n ≤ 22 → a ≡ answer n v → r ≡ word_of low a
+    → r ≡ word n (low v)
+unfolding word word_of answer
+word_given low n v {a} {r} h e k = k ∙ ap (word_of low) e ∙ go (eqb n 0) refl
   where
-    go : (eqb refused 0 ≡ true) ⊎ (eqb refused 0 ≡ false) → w (cond (eqb refused 0) a b) ≡ cond (eqb refused 0) n (refused * 65536)
-    go (inl t) = rw t p
-    go (inr t) = rw t (q ∙ rw t)
+    go : (t : Bool) → eqb n 0 ≡ t → word_of low (answer n v) ≡ word n (low v)
+    go true q = rw q
+    go false q = rw q (ap (λ (x : ℕ). x * 65536) (named_back n (eqb-false n 0 q) h))
 
-pub count_word_lem : (refused n : ℕ) → count_word (count_answer refused n) ≡ word refused n
-unfolding count_answer count_word
-count_word_lem refused n = word_of count_word (count.Is n) (count.Refused refused) refused n refl refl
+-- a list that was handed out, with its count
+pub list_given : (size told : ℕ) (out l : List ℕ) {a : Result ℕ Refusal} {r : ℕ} {out' : List ℕ} → told ≤ 22
+    → (a ≡ counted size told out l) × (out' ≡ list_out told out l) → r ≡ word_of (λ (n : ℕ). n) a
+    → (r ≡ list_word size told out l) × (out' ≡ list_out told out l)
+unfolding counted list_word
+list_given size told out l h (e, o) k =
+    (word_given (λ (n : ℕ). n) (list_refusal told out l) (length l / size) (list_named told out l h) e k, o)
 
-pub mask_word_lem : (refused n : ℕ) → mask_word (mask_answer refused n) ≡ word refused n
-unfolding mask_answer mask_word
-mask_word_lem refused n = word_of mask_word (mask.Is n) (mask.Refused refused) refused n refl refl
+-- .. whose count is known
+pub count_given : (told : ℕ) (out l : List ℕ) {a : Result ℕ Refusal} {r n : ℕ} {out' : List ℕ} → told ≤ 22 → n ≡ length l / 1
+    → (a ≡ answer (list_refusal told out l) n) × (out' ≡ list_out told out l) → r ≡ word_of (λ (n : ℕ). n) a
+    → (r ≡ list_word 1 told out l) × (out' ≡ list_out told out l)
+unfolding list_word
+count_given told out l {n = n} h many (e, o) k =
+    (word_given (λ (n : ℕ). n) (list_refusal told out l) n (list_named told out l h) e k ∙ ap (word (list_refusal told out l)) many, o)
 
-pub number_word_lem : (refused n : ℕ) → number_word (number_answer refused n) ≡ word refused n
-unfolding number_answer number_word
-number_word_lem refused n = word_of number_word (number.Is n) (number.Refused refused) refused n refl refl
+-- ---- what was told, of another value
 
-pub verdict-word : (refused : ℕ) (v : Verdict) → verdict_word (verdict_answer refused v) ≡ word refused (verdict_no v)
-unfolding verdict_answer verdict_word
-verdict-word refused v = word_of verdict_word (verdict.Is v) (verdict.Refused refused) refused (verdict_no v) refl refl
+module _ {A B : Type 0} (told : ℕ) (w : B) (v : A) {a : Result B Refusal} where
+  pub told_err : {x : Refusal} {r : Result A Refusal} → a ≡ answer told w → a ≡ Err x → r ≡ Err x → r ≡ answer told v
+  unfolding answer
+  told_err {x} {r} e is k = k ∙ go (eqb told 0) refl
+    where
+      go : (t : Bool) → eqb told 0 ≡ t → Err x ≡ answer told v
+      go true q = let z : Ok w ≡ Err x = sym (rw q at e) ∙ is in cc
+      go false q =
+          let z : Err x ≡ Err (refusal_named told) = sym is ∙ rw q at e in
+          let s : x ≡ refusal_named told = cc in
+          rw (q, s)
 
-pub length-word : (refused n m : ℕ) → length_word (length_answer refused m) n ≡ word refused n
-unfolding length_answer length_word
-length-word refused n m = word_of (λ a. length_word a n) (length-is.Is m) (length-is.Refused refused) refused n refl refl
+  pub told_ok : {x : B} → a ≡ answer told w → a ≡ Ok x → Ok v ≡ answer told v
+  unfolding answer
+  told_ok {x} e is = rw (answered told w e is).0
 
--- ---- a refusal that is given before the question is asked; `told` is what it means
-
-module _ {refused told : ℕ} (e : told ≡ refused) (given : refused ≡ 0 → ⊥) where
-  not_none : eqb told 0 ≡ false
-  not_none = ne_eqb told 0 (λ z. given (sym e ∙ z))
-
-  pub refused-word : (n : ℕ) {r : ℕ} → r ≡ word refused 0 → r ≡ word told n
-  unfolding word
-  refused-word n k = k ∙ ap (λ (x : ℕ). word x 0) (sym e) ∙ rw (not_none)
-
-  pub refused-list : (size : ℕ) (out a : List ℕ) {r : ℕ} → r ≡ word refused 0 → (r ≡ list_word size told out a) × (out ≡ list_out told out a)
-  unfolding list_word
-  refused-list size out a k =
-      let o = kept_out told out a (λ z. given (sym e ∙ z)) in
-      (rw o.0 (refused-word (length a / size) k), o.1)
-
--- ---- a list that was asked for, by what the question's refusal and its list mean
-
-module _ (size : ℕ) {asked told : ℕ} {a list : List ℕ} (e : asked ≡ told) (l : a ≡ list) (out : List ℕ) where
-  answered-list : {n r : ℕ} {out' : List ℕ} → n ≡ length a / size → r ≡ word (list_refusal asked out a) n → out' ≡ list_out asked out a
-      → (r ≡ list_word size told out list) × (out' ≡ list_out told out list)
-  unfolding list_word
-  answered-list m k o = (
-    k ∙ ap (word (list_refusal asked out a)) m
-        ∙ ap₂ (λ (x : ℕ) (y : List ℕ). word (list_refusal x out y) (length y / size)) e l,
-    o ∙ ap₂ (λ (x : ℕ) (y : List ℕ). list_out x out y) e l,
-  )
-
-  -- .. with its count; a text, whose length is known
-  pub answered-count : {r : ℕ} {answer : CountAnswer} {out' : List ℕ} → r ≡ count_word answer
-      → (answer ≡ counted size asked out a) × (out' ≡ list_out asked out a)
-      → (r ≡ list_word size told out list) × (out' ≡ list_out told out list)
-  unfolding counted
-  answered-count k o = answered-list refl (k ∙ ap count_word o.0 ∙ count_word_lem (list_refusal asked out a) (length a / size)) o.1
-
-  pub answered-length : {n r : ℕ} {answer : LengthAnswer} {out' : List ℕ} → n ≡ length a / size → r ≡ length_word answer n
-      → (answer ≡ written asked out a) × (out' ≡ list_out asked out a)
-      → (r ≡ list_word size told out list) × (out' ≡ list_out told out list)
-  unfolding written
-  answered-length {n} m k o =
-      answered-list m (k ∙ ap (λ (x : LengthAnswer). length_word x n) o.0 ∙ length-word (list_refusal asked out a) n (length a)) o.1
+pub same_ok : (told : ℕ) {n m : ℕ} → n ≡ m → Ok m ≡ answer told m → Ok n ≡ answer told m
+same_ok told e k = ap (λ (x : ℕ). Ok x) e ∙ k

@@ -1,21 +1,12 @@
 -- The answers of the host interface: one number for an answer or a refusal; and the refusals about cell bytes.
-use Rattle.std.specs.Prelude.{cond, List, ℕ, ◌*◌, ◌/◌, eqb, length}
-use Rattle.rules.specs.Numbers.{verdict_no}
+use Rattle.std.specs.Prelude.{cond, List, ℕ, ◌*◌, ◌/◌, eqb, length, Result, Ok, Err}
 use Rattle.rules.specs.Refusals.{first}
-use Rattle.rules.specs.declared.answer.CountAnswer.{CountAnswer}
-use Rattle.rules.specs.declared.answer.CountAnswer.TheVariants as count
-use Rattle.rules.specs.declared.answer.MaskAnswer.{MaskAnswer}
-use Rattle.rules.specs.declared.answer.MaskAnswer.TheVariants as mask
-use Rattle.rules.specs.declared.answer.NumberAnswer.{NumberAnswer}
-use Rattle.rules.specs.declared.answer.NumberAnswer.TheVariants as number
+use Rattle.rules.specs.Answers.{refusal_no}
+use Rattle.rules.specs.declared.refusal.Refusal.{Refusal}
 use Rattle.lent.specs.Lists.{list_refusal}
-use Rattle.board.specs.Boards.{board_of}
 use Rattle.cells.specs.Cells.{cells_refusal}
+use Rattle.board.specs.Boards.{board_of}
 use Rattle.board.specs.declared.board.Board.{Board}
-use Rattle.rules.specs.declared.answer.VerdictAnswer.{VerdictAnswer}
-use Rattle.rules.specs.declared.answer.VerdictAnswer.TheVariants as verdict
-use Rattle.display.specs.declared.answer.LengthAnswer.{LengthAnswer}
-use Rattle.display.specs.declared.answer.LengthAnswer.TheVariants as length-is
 use Rattle.line.specs.declared.line.Line.{Line}
 
 -- ---- one number
@@ -28,28 +19,10 @@ word refused n = cond (eqb refused 0) n (refused * 65536)
 unfoldable pub list_word : ℕ → ℕ → List ℕ → List ℕ → ℕ
 list_word size refused out a = word (list_refusal refused out a) (length a / size)
 
--- ---- the number of an answer of the crates below
-
-unfoldable pub count_word : CountAnswer → ℕ
-count_word (count.Is n) = word 0 n
-count_word (count.Refused refused) = word refused 0
-
-unfoldable pub mask_word : MaskAnswer → ℕ
-mask_word (mask.Is m) = word 0 m
-mask_word (mask.Refused refused) = word refused 0
-
-unfoldable pub number_word : NumberAnswer → ℕ
-number_word (number.Is n) = word 0 n
-number_word (number.Refused refused) = word refused 0
-
-unfoldable pub verdict_word : VerdictAnswer → ℕ
-verdict_word (verdict.Is v) = word 0 (verdict_no v)
-verdict_word (verdict.Refused refused) = word refused 0
-
--- .. of a text whose length is known
-unfoldable pub length_word : LengthAnswer → ℕ → ℕ
-length_word (length-is.Is _) n = word 0 n
-length_word (length-is.Refused refused) n = word refused 0
+-- of an answer of the crates below, whose value `low` gives as a number
+unfoldable pub word_of : {A : Type 0} → (A → ℕ) → Result A Refusal → ℕ
+word_of low (Ok value) = low value
+word_of low (Err refusal) = refusal_no refusal * 65536
 
 -- ---- refusals of a question asked of cell bytes
 

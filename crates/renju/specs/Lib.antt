@@ -2,5 +2,3 @@
 pub mod Answers
 pub mod Feeds
 pub mod Games
-pub mod Depths
-pub mod Hints

@@ -1,51 +1,73 @@
 // The one number that every function answers, from the answers of the crates below.
-ghost use Rattle.std.specs.Prelude.{◌≡◌};
-ghost use Rattle.renju.specs.Answers.{word, count_word, mask_word, number_word, verdict_word};
+ghost use Rattle.std.specs.Prelude.{◌≡◌, ℕ, ◌*◌};
+ghost use Rattle.rules.specs.Numbers.{verdict_no};
+ghost use Rattle.rules.specs.Bit.{digit};
+ghost use Rattle.rules.specs.Answers.{refusal_no};
+ghost use Rattle.renju.specs.Answers.{word_of};
 
-use rules::{CountAnswer, MaskAnswer, NumberAnswer, VerdictAnswer};
+use rules::{Refusal, Verdict};
+
+// What a function answers, as the number that stands in the low half: 0 for nothing, 1 for a test that passes.
+pub(crate) trait Low {
+    ghost low: { Self → ℕ };
+
+    fn low(self) -> u16
+        ensures { result ≡ low self };
+}
+
+impl Low for () {
+    ghost low = { λ _. 0 };
+
+    fn low(self) -> u16 {
+        0
+    }
+}
+
+impl Low for u8 {
+    ghost low = { λ n. n };
+
+    fn low(self) -> u16 {
+        self as u16
+    }
+}
+
+impl Low for u16 {
+    ghost low = { λ n. n };
+
+    fn low(self) -> u16 {
+        self
+    }
+}
+
+impl Low for bool {
+    ghost low = { digit };
+
+    fn low(self) -> u16 {
+        self as u16
+    }
+}
+
+impl Low for Verdict {
+    ghost low = { verdict_no };
+
+    fn low(self) -> u16 {
+        self as u16
+    }
+}
 
 // A refusal in the high half, or, where there is none, an answer in the low.
-pub(crate) fn word(refused: u8, n: u16) -> u32
-    ensures { result ≡ word refused n }
-{
-    if refused == 0 {
-        return n as u32;
-    }
-    refused as u32 * 65536
-}
-
-pub(crate) fn count_word(answer: CountAnswer) -> u32
-    ensures { result ≡ count_word answer }
+#[tactic(auto, unfolding(crate::specs::Answers::word_of))]
+pub(crate) fn word<T: Low>(answer: Result<T, Refusal>) -> u32
+    ensures { result ≡ word_of T.low answer }
 {
     match answer {
-        CountAnswer::Is(n) => word(0, n),
-        CountAnswer::Refused(refused) => word(refused, 0),
+        Ok(value) => value.low() as u32,
+        Err(refusal) => refused(refusal),
     }
 }
 
-pub(crate) fn mask_word(answer: MaskAnswer) -> u32
-    ensures { result ≡ mask_word answer }
+pub(crate) fn refused(refusal: Refusal) -> u32
+    ensures { result ≡ refusal_no refusal * 65536 }
 {
-    match answer {
-        MaskAnswer::Is(mask) => word(0, mask),
-        MaskAnswer::Refused(refused) => word(refused, 0),
-    }
-}
-
-pub(crate) fn number_word(answer: NumberAnswer) -> u32
-    ensures { result ≡ number_word answer }
-{
-    match answer {
-        NumberAnswer::Is(n) => word(0, n as u16),
-        NumberAnswer::Refused(refused) => word(refused, 0),
-    }
-}
-
-pub(crate) fn verdict_word(answer: VerdictAnswer) -> u32
-    ensures { result ≡ verdict_word answer }
-{
-    match answer {
-        VerdictAnswer::Is(verdict) => word(0, verdict.number() as u16),
-        VerdictAnswer::Refused(refused) => word(refused, 0),
-    }
+    refusal as u32 * 65536
 }

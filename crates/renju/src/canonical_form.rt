@@ -5,7 +5,7 @@ ghost use Rattle.cells.specs.Cells.{cells_refusal};
 ghost use Rattle.canonical.specs.Canonical.{canonical_view, canonical_cells};
 ghost use Rattle.renju.specs.Answers.{word};
 
-use super::answer::number_word;
+use super::answer::word;
 use canonical::canonical_of;
 
 // The smallest view that gives the least of the eight turned boards by its cell bytes; that board to the front of `out`.
@@ -14,5 +14,5 @@ pub fn renju_canonical(cells: &[u8], out: &mut [u8]) -> u32
         (canonical_view cells.now))
         × (out.new ≡ list_out (cells_refusal cells.now) out.old (canonical_cells cells.now)) }
 {
-    number_word(canonical_of(cells, out))
+    word(canonical_of(cells, out))
 }

@@ -7,7 +7,7 @@ ghost use Rattle.cells.specs.Cells.{cells_refusal, cells_refusal_at, cells_refus
 ghost use Rattle.cells.specs.Calls.{after_put, after_remove};
 ghost use Rattle.renju.specs.Answers.{word, list_word};
 
-use super::answer::{count_word, number_word, word};
+use super::answer::word;
 use cells::{put_of, remove_of, turned_of};
 use point::turn_point;
 
@@ -16,7 +16,7 @@ pub fn renju_put(cells: &mut [u8], code: u8, colour: u8) -> u32
     ensures { (result ≡ word (cells_refusal_for cells.old code colour) 0)
         × (cells.new ≡ after_put cells.old code colour) }
 {
-    word(put_of(cells, code, colour), 0)
+    word(put_of(cells, code, colour))
 }
 
 // A point made empty.
@@ -24,7 +24,7 @@ pub fn renju_remove(cells: &mut [u8], code: u8) -> u32
     ensures { (result ≡ word (cells_refusal_at cells.old code) 0)
         × (cells.new ≡ after_remove cells.old code) }
 {
-    word(remove_of(cells, code), 0)
+    word(remove_of(cells, code))
 }
 
 // The cell bytes of the board in a view.
@@ -34,12 +34,12 @@ pub fn renju_turn(cells: &[u8], view: u8, out: &mut [u8]) -> u32
         × (out.new ≡ list_out (first (cells_refusal cells.now) (view_refusal view)) out.old
         (turn_cells view cells.now)) }
 {
-    count_word(turned_of(cells, view, out))
+    word(turned_of(cells, view, out))
 }
 
 // Where a view sends a point.
 pub fn renju_turn_point(code: u8, view: u8) -> u32
     ensures { result ≡ word (first (code_refusal code) (view_refusal view)) (turn view code) }
 {
-    number_word(turn_point(code, view))
+    word(turn_point(code, view))
 }

@@ -5,7 +5,7 @@ ghost use Rattle.feed.specs.Compare.{missing_refusal, longer_of};
 ghost use Rattle.renju.specs.Answers.{word};
 ghost use Rattle.renju.specs.Feeds.{message_by};
 
-use super::answer::{count_word, number_word};
+use super::answer::word;
 use feed::{Message, longer, take_held};
 
 // A message at a client that holds `count` moves of a game in the leading bytes of `held`: the new count; the code stands behind them.
@@ -25,7 +25,7 @@ pub fn renju_feed_take(
         number,
         code,
     };
-    count_word(take_held(game, held, count, message))
+    word(take_held(game, held, count, message))
 }
 
 // Which of two held lists is longer, where one begins the other: 0 for neither, 1 for the first, 2 for the second.
@@ -33,5 +33,5 @@ pub fn renju_feed_missing(first: &[u8], second: &[u8]) -> u32
     ensures { result ≡ word (missing_refusal first.now second.now)
         (longer_of first.now second.now) }
 {
-    number_word(longer(first, second))
+    word(longer(first, second))
 }

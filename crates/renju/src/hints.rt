@@ -7,18 +7,16 @@ ghost use Rattle.hint.specs.Hint.{acceptable};
 ghost use Rattle.hint.specs.Planner.{plan_of};
 ghost use Rattle.hint.specs.Refused.{check_refusal, plan_refusal};
 ghost use Rattle.renju.specs.Answers.{word, list_word};
-ghost use Rattle.renju.specs.Hints.{test_word};
 
-use super::answer::{count_word, word};
+use super::answer::word;
 use hint::{win_check_of, win_plan_of};
-use rules::TestAnswer;
 
 // 1 where the line is acceptable for the colour, to move, else 0.
 pub fn renju_win_check(cells: &[u8], colour: u8, line: &[u8]) -> u32
     ensures { result ≡ word (check_refusal cells.now colour line.now)
         (digit (acceptable (player_of colour) cells.now line.now)) }
 {
-    test_word(win_check_of(cells, colour, line))
+    word(win_check_of(cells, colour, line))
 }
 
 // The first acceptable line of at most `limit` attacks by comparing codes from the front: how many points it has, 0 for no line.
@@ -28,24 +26,5 @@ pub fn renju_win_plan(cells: &[u8], colour: u8, limit: u8, out: &mut [u8]) -> u3
         × (out.new ≡ list_out (plan_refusal cells.now colour limit out.old) out.old
         (plan_of (player_of colour) limit cells.now)) }
 {
-    count_word(win_plan_of(cells, colour, limit, out))
-}
-
-// The number of a test's answer: 1 for yes, 0 for no.
-fn test_word(answer: TestAnswer) -> u32
-    ensures { result ≡ test_word answer }
-{
-    match answer {
-        TestAnswer::Is(passed) => word(0, one_if(passed)),
-        TestAnswer::Refused(refused) => word(refused, 0),
-    }
-}
-
-fn one_if(passed: bool) -> u16
-    ensures { result ≡ digit passed }
-{
-    if passed {
-        return 1;
-    }
-    0
+    word(win_plan_of(cells, colour, limit, out))
 }

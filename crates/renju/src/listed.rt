@@ -9,7 +9,7 @@ ghost use Rattle.lists.specs.Lists.{rows_refusal};
 ghost use Rattle.renju.specs.Answers.{list_word, refusal_of};
 ghost use Rattle.cells.specs.Cells.{cells_refusal, cells_stones_refusal, cells_neighbours_refusal};
 
-use super::answer::{count_word, word};
+use super::answer::{refused, word};
 use board::Board;
 use cells::{empty_points_of, neighbors_of, stones_of};
 use lists::{four_eyes_on, rows, rows_on};
@@ -22,7 +22,7 @@ pub fn renju_stones(cells: &[u8], colour: u8, out: &mut [u8]) -> u32
         × (out.new ≡ list_out (cells_stones_refusal cells.now colour) out.old
         (stones_of (player_of colour) cells.now)) }
 {
-    count_word(stones_of(cells, colour, out))
+    word(stones_of(cells, colour, out))
 }
 
 // The empty points, as codes, ascending.
@@ -30,7 +30,7 @@ pub fn renju_empty_points(cells: &[u8], out: &mut [u8]) -> u32
     ensures { (result ≡ list_word 1 (cells_refusal cells.now) out.old (empty_points cells.now))
         × (out.new ≡ list_out (cells_refusal cells.now) out.old (empty_points cells.now)) }
 {
-    count_word(empty_points_of(cells, out))
+    word(empty_points_of(cells, out))
 }
 
 // The points up to a distance along the four lines through a point, as codes, line by line.
@@ -46,7 +46,7 @@ pub fn renju_neighbors(
         × (out.new ≡ list_out (cells_neighbours_refusal cells.now code distance) out.old
         (neighbours cells.now code distance only_empty)) }
 {
-    count_word(neighbors_of(cells, code, distance, only_empty, out))
+    word(neighbors_of(cells, code, distance, only_empty, out))
 }
 
 // The colour's rows of a kind, four bytes each: key, start, stones mask, eyes mask.
@@ -56,11 +56,10 @@ pub fn renju_rows(cells: &[u8], colour: u8, kind: u8, out: &mut [u8]) -> u32
         × (out.new ≡ list_out (refusal_of cells.now (λ b. rows_refusal b colour kind)) out.old
         (rows_of (player_of colour) (kind_of kind) cells.now)) }
 {
-    let made = Board::from_cells(cells);
-    if made.refused != 0 {
-        return word(made.refused, 0);
+    match Board::from_cells(cells) {
+        Ok(board) => word(rows(board, colour, kind, out)),
+        Err(refusal) => refused(refusal),
     }
-    count_word(rows(made.board, colour, kind, out))
 }
 
 // .. those through a point.
@@ -70,11 +69,10 @@ pub fn renju_rows_on(cells: &[u8], code: u8, colour: u8, kind: u8, out: &mut [u8
         × (out.new ≡ list_out (refusal_of cells.now (λ b. rows_on_refusal b code colour kind)) out.old
         (rows_on_point (player_of colour) (kind_of kind) cells.now code)) }
 {
-    let made = Board::from_cells(cells);
-    if made.refused != 0 {
-        return word(made.refused, 0);
+    match Board::from_cells(cells) {
+        Ok(board) => word(rows_on(board, code, colour, kind, out)),
+        Err(refusal) => refused(refusal),
     }
-    count_word(rows_on(made.board, code, colour, kind, out))
 }
 
 // The points that make the colour's Fours through a point a five, as codes, line by line.
@@ -84,11 +82,10 @@ pub fn renju_four_eyes_on(cells: &[u8], code: u8, colour: u8, out: &mut [u8]) ->
         × (out.new ≡ list_out (refusal_of cells.now (λ b. refusal_for b code colour)) out.old
         (four_eyes (player_of colour) cells.now code)) }
 {
-    let made = Board::from_cells(cells);
-    if made.refused != 0 {
-        return word(made.refused, 0);
+    match Board::from_cells(cells) {
+        Ok(board) => word(four_eyes_on(board, code, colour, out)),
+        Err(refusal) => refused(refusal),
     }
-    count_word(four_eyes_on(made.board, code, colour, out))
 }
 
 // The points forbidden to Black, two bytes each: kind and code, by ascending code.
@@ -96,5 +93,5 @@ pub fn renju_forbidden_points(cells: &[u8], out: &mut [u8]) -> u32
     ensures { (result ≡ list_word 2 (cells_refusal cells.now) out.old (forbidden_list cells.now))
         × (out.new ≡ list_out (cells_refusal cells.now) out.old (forbidden_list cells.now)) }
 {
-    count_word(forbidden_points_of(cells, out))
+    word(forbidden_points_of(cells, out))
 }

@@ -5,9 +5,9 @@ ghost use Rattle.text.specs.Reading.{diagram_text_refusal, diagram_text_cells};
 ghost use Rattle.diagrams.specs.Stones.{convert_refusal, converted};
 ghost use Rattle.renju.specs.Answers.{list_word};
 
-use super::answer::{count_word, word};
+use super::answer::word;
+use super::texts::cells_out;
 use diagrams::convert_diagram;
-use lent::write_out;
 use text::read_diagram_cells;
 
 // The cells of the diagram that a text is, whatever bytes it has, to the front of `cells`.
@@ -16,10 +16,7 @@ pub fn renju_read_diagram(text: &[u8], cells: &mut [u8]) -> u32
         × (cells.new ≡ list_out (diagram_text_refusal text.now) cells.old
         (diagram_text_cells text.now)) }
 {
-    let read = read_diagram_cells(text);
-    let bytes = read.cells;
-    let refused = write_out(read.refused, cells, &bytes, 225);
-    word(refused, 225)
+    word(cells_out(read_diagram_cells(text), cells))
 }
 
 // The stones text of that diagram: how many bytes it has.
@@ -27,5 +24,5 @@ pub fn renju_convert(text: &[u8], out: &mut [u8]) -> u32
     ensures { (result ≡ list_word 1 (convert_refusal text.now) out.old (converted text.now))
         × (out.new ≡ list_out (convert_refusal text.now) out.old (converted text.now)) }
 {
-    count_word(convert_diagram(text, out))
+    word(convert_diagram(text, out))
 }

@@ -6,7 +6,7 @@ ghost use Rattle.cells.specs.Cells.{cells_refusal_at};
 ghost use Rattle.referee.specs.Answers.{forbidden_refusal};
 ghost use Rattle.renju.specs.Answers.{word, refusal_of};
 
-use super::answer::{verdict_word, word};
+use super::answer::{refused, word};
 use board::Board;
 use referee::{forbidden, forbidden_strict_of};
 
@@ -15,16 +15,15 @@ pub fn renju_forbidden(cells: &[u8], code: u8) -> u32
     ensures { result ≡ word (refusal_of cells.now (λ b. forbidden_refusal b code))
         (verdict_no (plain_of cells.now code)) }
 {
-    let made = Board::from_cells(cells);
-    if made.refused != 0 {
-        return word(made.refused, 0);
+    match Board::from_cells(cells) {
+        Ok(board) => word(forbidden(board, code)),
+        Err(refusal) => refused(refusal),
     }
-    verdict_word(forbidden(made.board, code))
 }
 
 // The strict verdict: none at an occupied point, and where the stone completes a five.
 pub fn renju_forbidden_strict(cells: &[u8], code: u8) -> u32
     ensures { result ≡ word (cells_refusal_at cells.now code) (verdict_no (strict_of cells.now code)) }
 {
-    verdict_word(forbidden_strict_of(cells, code))
+    word(forbidden_strict_of(cells, code))
 }

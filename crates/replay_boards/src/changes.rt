@@ -7,10 +7,8 @@ use renju::{renju_put, renju_remove};
 // Changes at every eighth point, and past the board.
 pub(crate) fn replay_changes(before: u32, cells: [u8; 225]) -> u32 {
     let mut t = before;
-    let mut code = 0u8;
-    while code < 248 {
+    for code in (0..248u8).step_by(8) {
         t = replay_change(t, cells, code);
-        code += 8;
     }
     t
 }
@@ -41,7 +39,7 @@ fn changes(cells: [u8; 225], room: usize, code: u8, value: u8, word: u32) -> boo
 {
     let mut page = cells;
     let told = change(&mut page[..room], code, value);
-    (told == word) & is_changed(&page, cells, code, value, word)
+    told == word && is_changed(&page, cells, code, value, word)
 }
 
 fn change(cells: &mut [u8], code: u8, value: u8) -> u32 {

@@ -15,7 +15,7 @@ use boards::replay_board;
 use lent::{head, tail};
 use listed::replay_list;
 use records::{
-    answer, byte_at, cells_of, count, find_from, line_at, next_line, read_records, room, say_counts,
+    answer, byte_at, cells_of, count, find_from, line_at, read_records, room, say_counts,
 };
 use verdicts::replay_verdicts;
 
@@ -28,30 +28,21 @@ fn main(rt: HostRuntime) {
 // Each record is asked of the board whose record is the last before it.
 fn replay_all<R: Print>(rt: &R, text: &[u8]) {
     let mut counts = [0u64; 64];
-    let mut opened = 0;
-    let mut at = 0;
-    while at < text.len() {
-        let record = line_at(text, at);
-        opened = opened_at(record, at, opened);
+    let mut block = line_at(text, 0);
+    for line in text.split_inclusive(|&byte| byte == b'\n') {
+        let record = line.strip_suffix(b"\n").unwrap_or(line);
+        if byte_at(record, 0) == b'b' {
+            block = record;
+        }
         count(
             rt,
             &mut counts,
             b"bsSpPfFkmroen",
             record,
-            replay(line_at(text, opened), record),
+            replay(block, record),
         );
-        at = next_line(text, at);
     }
     say_counts(rt, b"bsSpPfFkmroen", &counts);
-}
-
-// The place of a record that opens a block, else that of the one before.
-fn opened_at(record: &[u8], at: usize, before: usize) -> usize {
-    if byte_at(record, 0) == b'b' {
-        at
-    } else {
-        before
-    }
 }
 
 fn replay(block: &[u8], record: &[u8]) -> u32 {

@@ -1,24 +1,23 @@
 // Records that hold a verdict for every point: `s` and `S` the strict ones, `p` and `P` the plain ones.
 use board::Board;
 use lent::head;
-use records::{answer, byte_at, refusal_word, test_word, verdict_word, with_cell};
+use records::{answer, byte_at, refusal_word, with_cell, word};
 use referee::{forbidden_strict, is_double_three};
 use renju::{renju_forbidden, renju_forbidden_strict};
 
 // Cells that are no board's are refused, before a code is. The board by value is asked too, which is lent to the referee: for its strict
 // verdicts, and beside the plain ones whether a double three is there, asked alone.
 pub(crate) fn replay_verdicts(cells: [u8; 225], record: &[u8]) -> u32 {
-    let made = Board::from_cells(&cells);
-    if record.len() != 227 {
+    let Ok(board) = Board::from_cells(&cells) else {
         return answer(0, false);
-    }
-    if made.refused != 0 {
+    };
+    if record.len() != 227 {
         return answer(0, false);
     }
     let spoilt = with_cell(cells, 224, 3);
     let mut t = answer(0, ask(&spoilt, record, 0) == refusal_word(9));
     t = answer(t, ask(head(&cells, 224), record, 225) == refusal_word(9));
-    replay_codes(t, made.board, &cells, record)
+    replay_codes(t, board, &cells, record)
 }
 
 fn replay_codes(before: u32, board: Board, cells: &[u8], record: &[u8]) -> u32 {
@@ -59,10 +58,10 @@ fn replay_point(t: u32, board: Board, record: &[u8], code: u8) -> u32 {
     if 224 < code {
         return t;
     }
-    let word = word_at(record, code);
+    let recorded = word_at(record, code);
     match byte_at(record, 0) {
-        b's' | b'S' => answer(t, verdict_word(forbidden_strict(board, code)) == word),
-        _ => replay_double(t, test_word(is_double_three(board, code)), word),
+        b's' | b'S' => answer(t, word(forbidden_strict(board, code)) == recorded),
+        _ => replay_double(t, word(is_double_three(board, code)), recorded),
     }
 }
 

@@ -1,11 +1,13 @@
 // Records about a cell of a line: the rows through it, as masks and as lists in lent buffers; and the lists of a whole line.
-ghost use Rattle.std.specs.Prelude.{◌≡◌, ◌≤◌, length};
+ghost use Rattle.std.specs.Prelude.{◌≤◌};
 
 use super::fields::{colour_of, kind_of, line_of, mask_of};
-use line::{Line, SegmentAnswer};
+use lent::Kept;
+use line::Line;
 use masks::bit_at;
-use records::{answer, byte, count_bits, holds, number_word, refusal_word};
+use records::{answer, byte, count_bits, holds, refusal_word, word};
 use renju::renju_line_starts_on;
+use rules::Refusal;
 use segment::Segment;
 
 // `c`: the starts for each colour and kind are recorded.
@@ -13,10 +15,8 @@ pub(crate) fn replay_cell(record: &[u8]) -> u32 {
     let line = line_of(record);
     let cell = byte(record, 15);
     let mut t = 0u32;
-    let mut k = 0u8;
-    while k < 16 {
+    for k in 0..16u8 {
         t = replay_rows_on(t, line, cell, k, mask_of(record, 18, k));
-        k += 1;
     }
     t
 }
@@ -26,7 +26,7 @@ fn replay_rows_on(before: u32, line: Line, cell: u8, k: u8, starts: u16) -> u32 
     let wanted = rows_of(line, starts);
     let rows = count_bits(starts);
     let len = 3 * rows as usize;
-    let word = renju_line_starts_on(
+    let told = renju_line_starts_on(
         line.blacks,
         line.whites,
         line.size,
@@ -34,29 +34,34 @@ fn replay_rows_on(before: u32, line: Line, cell: u8, k: u8, starts: u16) -> u32 
         kind_of(k),
         cell,
     );
-    let mut t = answer(before, word == starts as u32);
-    t = answer(t, lists_rows_on(line, cell, k, len, rows as u32, &wanted));
+    let mut t = answer(before, told == starts as u32);
+    t = answer(
+        t,
+        lists_rows_on(line, cell, k, len, rows as u32, wanted.as_slice()),
+    );
     if len == 0 {
         return t;
     }
     answer(
         t,
-        lists_rows_on(line, cell, k, len - 1, refusal_word(13), b""),
+        lists_rows_on(
+            line,
+            cell,
+            k,
+            len - 1,
+            refusal_word(Refusal::NoRoom as u8),
+            b"",
+        ),
     )
 }
 
 // The word, and every byte of the buffer of which so many are lent. A refusal changes none.
-fn lists_rows_on(line: Line, cell: u8, k: u8, room: usize, word: u32, wanted: &[u8]) -> bool
+fn lists_rows_on(line: Line, cell: u8, k: u8, room: usize, known: u32, wanted: &[u8]) -> bool
     requires { room ≤ 48 }
 {
     let mut out = [255u8; 48];
     let told = line.rows_on(cell, colour_of(k), kind_of(k), &mut out[..room]);
-    (number_word(told) == word) & is_list(&out, wanted)
-}
-
-// The reference to an array gives its length, which the array itself has lost once a part of it was lent.
-fn is_list(out: &[u8; 48], wanted: &[u8]) -> bool {
-    holds(out, wanted)
+    (word(told) == known) & holds(&out, wanted)
 }
 
 // The rows of a whole line, in a buffer with room to spare.
@@ -64,7 +69,7 @@ pub(crate) fn lists_rows(line: Line, colour: u8, kind: u8, starts: u16) -> bool 
     let wanted = rows_of(line, starts);
     let mut out = [255u8; 48];
     let told = line.rows(colour, kind, &mut out);
-    (number_word(told) == count_bits(starts) as u32) & is_list(&out, &wanted)
+    (word(told) == count_bits(starts) as u32) & holds(&out, wanted.as_slice())
 }
 
 // All segments of a line, whose starts are given.
@@ -72,32 +77,22 @@ pub(crate) fn lists_segments(line: Line, starts: u16) -> bool {
     let wanted = rows_of(line, starts);
     let mut out = [255u8; 48];
     let told = line.segments(&mut out);
-    (number_word(told) == count_bits(starts) as u32) & is_list(&out, &wanted)
+    (word(told) == count_bits(starts) as u32) & holds(&out, wanted.as_slice())
 }
 
-// A page with the starts in front, ascending, each with its segment: three bytes each.
-fn rows_of(line: Line, starts: u16) -> [u8; 48]
-    ensures { 48 ≡ length result }
-{
-    let mut bytes = [255u8; 48];
-    let mut at = 0usize;
-    for j in 0u8..16 {
-        if !bit_at(starts, j) {
-            continue;
+// The starts, ascending, each with its segment: three bytes each.
+fn rows_of(line: Line, starts: u16) -> Kept<48> {
+    let mut rows = Kept::<48>::new();
+    for j in 0..16u8 {
+        if bit_at(starts, j) {
+            let segment = segment_at(line, j);
+            rows.keep(&[j, segment.blacks, segment.whites]);
         }
-        let segment = segment_at(line, j);
-        bytes[at] = j;
-        bytes[at + 1] = segment.blacks;
-        bytes[at + 2] = segment.whites;
-        at += 3;
     }
-    bytes
+    rows
 }
 
 // Where there is none its masks have bit 7, which no segment's has.
 fn segment_at(line: Line, j: u8) -> Segment {
-    match line.segment(j) {
-        SegmentAnswer::Is(segment) => segment,
-        SegmentAnswer::Refused(_) => Segment::new(128, 128),
-    }
+    line.segment(j).unwrap_or(Segment::new(128, 128))
 }

@@ -2,22 +2,17 @@
 use super::asked::replay_refusals;
 use super::fields::{colour_of, kind_of, line_of, mask, mask_of, stone_of};
 use super::line_cells::{lists_rows, lists_segments};
-use line::{Line, LineAnswer};
-use records::{answer, byte, mask_word, number_word, stone_word};
+use line::Line;
+use records::{answer, byte, word};
 use renju::{renju_line_eyes, renju_line_starts};
+use rules::Refusal;
 
 // `l`: rows, eyes and bounds are recorded; the stones must be those of the record's own masks.
 pub(crate) fn replay_line(record: &[u8]) -> u32 {
     let line = line_of(record);
     let mut t = replay_rows(line, record);
-    t = answer(
-        t,
-        number_word(line.score_bound(1)) == byte(record, 175) as u32,
-    );
-    t = answer(
-        t,
-        number_word(line.score_bound(2)) == byte(record, 178) as u32,
-    );
+    t = answer(t, word(line.score_bound(1)) == byte(record, 175) as u32);
+    t = answer(t, word(line.score_bound(2)) == byte(record, 178) as u32);
     t = replay_cells(replay_masks(t, line), line);
     replay_refusals(t, line)
 }
@@ -29,30 +24,28 @@ pub(crate) fn replay_number(record: &[u8]) -> u32 {
     let n = byte(record, 18);
     let mut t = answer(
         0,
-        mask_word(line.count_mask(colour, n)) == mask(record, 21) as u32,
+        word(line.count_mask(colour, n)) == mask(record, 21) as u32,
     );
     t = answer(
         t,
-        mask_word(line.score_mask(colour, n)) == mask(record, 26) as u32,
+        word(line.score_mask(colour, n)) == mask(record, 26) as u32,
     );
     answer(
         t,
-        mask_word(line.open_starts(colour, n)) == mask(record, 31) as u32,
+        word(line.open_starts(colour, n)) == mask(record, 31) as u32,
     )
 }
 
 // `z`: the eyes of some starts.
 pub(crate) fn replay_eyes(record: &[u8]) -> u32 {
     let eyes = line_of(record).eyes_of(mask(record, 15), byte(record, 20));
-    answer(0, mask_word(eyes) == mask(record, 23) as u32)
+    answer(0, word(eyes) == mask(record, 23) as u32)
 }
 
 fn replay_rows(line: Line, record: &[u8]) -> u32 {
     let mut t = 0u32;
-    let mut k = 0u8;
-    while k < 16 {
+    for k in 0..16u8 {
         t = replay_kind(t, line, record, k);
-        k += 1;
     }
     t
 }
@@ -73,11 +66,11 @@ fn replay_kind(before: u32, line: Line, record: &[u8], k: u8) -> u32 {
 
 // The line as masks and as segments.
 fn replay_masks(before: u32, line: Line) -> u32 {
-    let mut t = answer(before, mask_word(line.stones(1)) == line.blacks as u32);
-    t = answer(t, mask_word(line.stones(2)) == line.whites as u32);
+    let mut t = answer(before, word(line.stones(1)) == line.blacks as u32);
+    t = answer(t, word(line.stones(2)) == line.whites as u32);
     t = answer(
         t,
-        mask_word(line.empty_cells()) == others(line.blacks | line.whites, line.size) as u32,
+        word(line.empty_cells()) == others(line.blacks | line.whites, line.size) as u32,
     );
     answer(t, lists_segments(line, windows_of(line.size)))
 }
@@ -88,16 +81,19 @@ fn replay_cells(before: u32, line: Line) -> u32 {
     let mut t = before;
     let mut built = made(Line::new(size));
     let mut cleared = line;
-    let mut i = 0u8;
-    while i < size {
+    for i in 0..size {
         let colour = stone_of(line, i);
-        t = answer(t, stone_word(line.stone(i)) == colour as u32);
+        t = answer(t, word(line.stone(i)) == colour as u32);
         built = with_stone(built, i, colour);
         cleared = without_stone(cleared, i, colour);
-        i += 1;
     }
-    t = answer(t, is_line(built, line.blacks, line.whites, size));
-    answer(t, is_line(cleared, 0, 0, size))
+    t = answer(t, built == line);
+    let empty = Line {
+        blacks: 0,
+        whites: 0,
+        size,
+    };
+    answer(t, cleared == empty)
 }
 
 // The first `size` cells without those of a mask.
@@ -133,17 +129,10 @@ fn without_stone(line: Line, i: u8, colour: u8) -> Line {
 }
 
 // For a refusal a line with no cells, which no record has.
-fn made(answer: LineAnswer) -> Line {
-    match answer {
-        LineAnswer::Is(line) => line,
-        LineAnswer::Refused(_) => Line {
-            blacks: 0,
-            whites: 0,
-            size: 0,
-        },
-    }
-}
-
-fn is_line(line: Line, blacks: u16, whites: u16, size: u8) -> bool {
-    (line.blacks == blacks) & (line.whites == whites) & (line.size == size)
+fn made(line: Result<Line, Refusal>) -> Line {
+    line.unwrap_or(Line {
+        blacks: 0,
+        whites: 0,
+        size: 0,
+    })
 }

@@ -22,6 +22,7 @@ fn main(rt: HostRuntime) {
 fn replay_all<R: Print>(rt: &R, text: &[u8]) {
     let mut counts = [0u64; 64];
     let mut at = 0;
+    // stays: where the next record begins is known once the end of this one's line is found
     while at < text.len() {
         let record = line_at(text, at);
         count(rt, &mut counts, b"lcqzg", record, replay(record));

@@ -2,7 +2,6 @@
 // the record. Writes what `records` says of a replay.
 #![tactic(auto)]
 
-mod answers;
 mod points;
 
 use points::{replay_address, replay_cell, replay_key};

@@ -4,8 +4,9 @@ use super::words::{is_told, length_word, starts_with};
 use super::writing::{replay_room, writes};
 use display::{write_line, write_segment};
 use lent::{head, tail};
-use line::{Line, LineAnswer};
+use line::Line;
 use records::{answer, byte, bytes_in, bytes_of, hex};
+use rules::Refusal;
 use segment::Segment;
 use text::read_line;
 
@@ -58,18 +59,16 @@ pub(crate) fn line_of(fields: &[u8]) -> Line {
     }
 }
 
-fn line_in(digits: &[u8]) -> LineAnswer {
+fn line_in(digits: &[u8]) -> Result<Line, Refusal> {
     let bytes = bytes_of(digits);
     read_line(head(&bytes, bytes_in(digits)))
 }
 
 // A size of ff stands for the refusal of a text with more than 15 cells.
-fn is_line(answer: LineAnswer, line: Line) -> bool {
+fn is_line(answer: Result<Line, Refusal>, line: Line) -> bool {
     match answer {
-        LineAnswer::Is(l) => {
-            (l.size == line.size) & (l.blacks == line.blacks) & (l.whites == line.whites)
-        }
-        LineAnswer::Refused(n) => (n == 5) & (line.size == 255),
+        Ok(read) => read == line,
+        Err(refusal) => refusal == Refusal::OverLength && line.size == 255,
     }
 }
 
@@ -83,6 +82,6 @@ fn is_front(line: Line, digits: &[u8]) -> bool {
     let bytes = bytes_of(digits);
     let len = bytes_in(digits);
     let mut out = [255u8; 600];
-    write_line(wide, &mut out);
+    let _ = write_line(wide, &mut out);
     (len == 2 * line.size as usize) & starts_with(&out, head(&bytes, len))
 }

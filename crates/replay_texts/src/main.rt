@@ -25,6 +25,7 @@ fn main(rt: HostRuntime) {
 fn replay_all<R: Print>(rt: &R, text: &[u8]) {
     let mut counts = [0u64; 64];
     let mut at = 0;
+    // stays: a turn passes a line, of any length
     while at < text.len() {
         let record = line_at(text, at);
         count(rt, &mut counts, b"tTcMCdDypLPiIg", record, replay(record));

@@ -1,10 +1,10 @@
 // Records about points and lists of points as text.
 use super::fields::{rest_of, text_in};
-use super::words::{count_word, is_told, length_word};
+use super::words::{is_told, length_word};
 use super::writing::replay_room;
 use display::write_point;
 use lent::{head, tail};
-use records::{answer, byte, bytes_in, bytes_of, number_word};
+use records::{answer, byte, bytes_in, bytes_of, word};
 use text::{read_point, read_points};
 
 // `y`: the text of a code is recorded; read, it gives the code back. The last 31 codes also stand for those past them, which are no
@@ -12,10 +12,7 @@ use text::{read_point, read_points};
 pub(crate) fn replay_point(record: &[u8]) -> u32 {
     let code = byte(record, 2);
     let t = replay_named(replay_room(0, record), record);
-    if code < 194 {
-        return t;
-    }
-    if 224 < code {
+    if !(194..=224).contains(&code) {
         return t;
     }
     let mut out = [255u8; 600];
@@ -29,7 +26,7 @@ fn replay_named(t: u32, record: &[u8]) -> u32 {
     let bytes = bytes_of(digits);
     let told = read_point(head(&bytes, bytes_in(digits)));
     answer(
-        answer(t, number_word(told) == byte(record, 2) as u32),
+        answer(t, word(told) == byte(record, 2) as u32),
         reads_list(digits, 0, head(tail(record, 2), 2)),
     )
 }
@@ -56,10 +53,5 @@ fn reads_list(digits: &[u8], refused: u8, listed: &[u8]) -> bool {
     let codes = bytes_of(listed);
     let mut out = [255u8; 600];
     let told = read_points(head(&bytes, bytes_in(digits)), &mut out);
-    is_told(
-        count_word(told),
-        refused,
-        head(&codes, bytes_in(listed)),
-        &out,
-    )
+    is_told(word(told), refused, head(&codes, bytes_in(listed)), &out)
 }

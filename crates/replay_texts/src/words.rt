@@ -1,9 +1,8 @@
 // What was asked answers a word, as every host function does: the number of the refusal in the high half, or, where there is none, the
 // answer.
-use display::LengthAnswer;
 use lent::head;
-use records::{holds, refusal_word};
-use rules::CountAnswer;
+use records::{holds, refusal_word, word};
+use rules::Refusal;
 
 // Whether a word and a buffer, lent in whole or in part, are as recorded: the number of the wanted bytes and the bytes, or the refusal and
 // the buffer as it was.
@@ -20,17 +19,6 @@ pub(crate) fn starts_with(out: &[u8; 600], text: &[u8]) -> bool {
 }
 
 // The word of a text that the library writes. None has 65,535 bytes.
-pub(crate) fn length_word(answer: LengthAnswer) -> u32 {
-    match answer {
-        LengthAnswer::Is(n) => { if n < 65535 { n as u32 } else { 65535 } }
-        LengthAnswer::Refused(refused) => refusal_word(refused),
-    }
-}
-
-// .. of a list that it reads.
-pub(crate) fn count_word(answer: CountAnswer) -> u32 {
-    match answer {
-        CountAnswer::Is(n) => n as u32,
-        CountAnswer::Refused(refused) => refusal_word(refused),
-    }
+pub(crate) fn length_word(answer: Result<usize, Refusal>) -> u32 {
+    word(answer.map(|n| n.min(65535) as u16))
 }

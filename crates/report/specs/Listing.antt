@@ -3,8 +3,6 @@
 use Rattle.std.specs.Prelude.{cond, List, [], ◌∷◌, ◌++◌, ℕ, ◌+◌, ◌*◌, ◌/◌, eqb, length, get_or}
 use Rattle.rules.specs.Tools.{gather}
 use Rattle.rules.specs.Forbidden.{forbidden_list}
-use Rattle.rules.specs.declared.answer.CountAnswer.{CountAnswer}
-use Rattle.rules.specs.declared.answer.CountAnswer.TheVariants as count
 use Rattle.text.specs.Bytes.{newline, blank}
 use Rattle.text.specs.Reading.{read_refusal, read_cells}
 use Rattle.display.specs.Texts.{number_text, point_text}
@@ -54,8 +52,3 @@ list_text pairs = lines_text pairs (length pairs / 2) ++ count_text forbidden_wo
 
 unfoldable pub listing_of : List ℕ → List ℕ
 listing_of s = cond (eqb (read_refusal s) 0) (list_text (forbidden_list (read_cells s))) (count_text refused_word (read_refusal s))
-
--- how many points a list was said to have; none where it was refused
-unfoldable pub count_in : CountAnswer → ℕ
-count_in (count.Is n) = n
-count_in (count.Refused n) = 0

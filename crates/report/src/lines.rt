@@ -1,74 +1,58 @@
-// The lines of a listing, written into a buffer one behind the other. Each function gives the next place.
-ghost use Rattle.std.specs.Prelude.{◌+◌, ◌*◌, ◌≤◌, length};
-ghost use Rattle.lent.specs.Lists.{Wrote};
-ghost use Rattle.display.specs.Texts.{number_text, point_text};
+// The lines of a listing, put at the end of a text one behind the other.
+ghost use Rattle.std.specs.Prelude.{◌≡◌, ◌+◌, ◌≤◌, [], ◌++◌, length};
 ghost use Rattle.report.specs.Listing.{kind_text, point_line, lines_text, count_text};
 
 use display::{number_label, point_label};
-use lent::{head, keep};
+use lent::Kept;
 
 // The lines of the first pairs, kind and code.
-pub(crate) fn lines_into(buf: &mut [u8], pairs: &[u8; 450], count: usize) -> usize
-    requires { (count ≤ 225) × (count * 17 ≤ length buf.old) }
-    ensures { Wrote buf.old 0 (lines_text pairs.now count) buf.new result }
+pub(crate) fn lines_into(pairs: &[u8; 450], count: u16, text: &mut Kept<3840>)
+    requires { (count ≤ 225) × (text.old ≡ []) }
+    ensures { text.new ≡ lines_text pairs.now count }
 {
-    let mut n = 0usize;
-    let mut i = 0usize;
-    while i < count {
-        n = line_into(buf, n, pairs[2 * i], pairs[2 * i + 1]);
-        i += 1;
+    for i in 0..count as usize {
+        line_into(pairs[2 * i], pairs[2 * i + 1], text);
     }
-    n
 }
 
 // A point and its kind.
-fn line_into(buf: &mut [u8], at: usize, kind: u8, code: u8) -> usize
-    requires { at + 17 ≤ length buf.old }
-    ensures { Wrote buf.old at (point_line kind code) buf.new result }
+#[tactic(auto, using(crate::proofs::Words::point_few, crate::proofs::Words::kind_few), unfolding(crate::specs::Listing::point_line))]
+fn line_into(kind: u8, code: u8, text: &mut Kept<3840>)
+    requires { length text.old + 17 ≤ 3840 }
+    ensures { text.new ≡ text.old ++ point_line kind code }
 {
-    let a = point_into(buf, at, code);
-    let b = keep(buf, a, true, b" ");
-    let c = kind_into(buf, b, kind);
-    keep(buf, c, true, b"\n")
+    put(point_label(code).as_slice(), text);
+    put(b" ", text);
+    put(kind_word(kind), text);
+    put(b"\n", text);
 }
 
-fn kind_into(buf: &mut [u8], at: usize, kind: u8) -> usize
-    requires { at + 11 ≤ length buf.old }
-    ensures { Wrote buf.old at (kind_text kind) buf.new result }
+#[tactic(auto, unfolding(crate::specs::Listing::kind_text, crate::specs::Listing::double_three, crate::specs::Listing::double_four, crate::specs::Listing::overline))]
+fn kind_word(kind: u8) -> &'static [u8]
+    ensures { result.now ≡ kind_text kind }
 {
-    if kind == 1 {
-        return keep(buf, at, true, b"DoubleThree");
+    match kind {
+        1 => b"DoubleThree",
+        2 => b"DoubleFour",
+        _ => b"Overline",
     }
-    if kind == 2 {
-        return keep(buf, at, true, b"DoubleFour");
-    }
-    keep(buf, at, true, b"Overline")
 }
 
-fn point_into(buf: &mut [u8], at: usize, code: u8) -> usize
-    requires { at + 4 ≤ length buf.old }
-    ensures { Wrote buf.old at (point_text code) buf.new result }
+#[tactic(auto, unfolding(lent::specs::Lists::kept))]
+fn put(bytes: &[u8], text: &mut Kept<3840>)
+    requires { length text.old + length bytes.now ≤ 3840 }
+    ensures { text.new ≡ text.old ++ bytes.now }
 {
-    let label = point_label(code);
-    let bytes = label.bytes;
-    keep(buf, at, true, head(&bytes, label.len))
-}
-
-fn number_into(buf: &mut [u8], at: usize, n: u8) -> usize
-    requires { at + 4 ≤ length buf.old }
-    ensures { Wrote buf.old at (number_text n) buf.new result }
-{
-    let label = number_label(n);
-    let bytes = label.bytes;
-    keep(buf, at, true, head(&bytes, label.len))
+    text.keep(bytes);
 }
 
 // A word and a number.
-pub(crate) fn count_into(buf: &mut [u8], at: usize, word: &[u8], n: u8) -> usize
-    requires { (length word.now ≤ 10) × (at + 15 ≤ length buf.old) }
-    ensures { Wrote buf.old at (count_text word.now n) buf.new result }
+#[tactic(auto, using(crate::proofs::Words::number_few), unfolding(crate::specs::Listing::count_text))]
+pub(crate) fn count_into(word: &[u8], n: u8, text: &mut Kept<3840>)
+    requires { (length word.now ≤ 10) × (length text.old + 15 ≤ 3840) }
+    ensures { text.new ≡ text.old ++ count_text word.now n }
 {
-    let a = keep(buf, at, true, word);
-    let b = number_into(buf, a, n);
-    keep(buf, b, true, b"\n")
+    put(word, text);
+    put(number_label(n).as_slice(), text);
+    put(b"\n", text);
 }

@@ -1,74 +1,58 @@
 // The listing of a text, laid out in a local buffer, then handed out.
 ghost use Rattle.std.specs.Prelude.{◌≡◌};
-ghost use Rattle.lent.specs.Lists.{list_out, Held};
+ghost use Rattle.lent.specs.Lists.{list_out};
 ghost use Rattle.display.specs.Answers.{written};
+ghost use Rattle.rules.specs.Answers.{refusal_no};
 ghost use Rattle.rules.specs.Forbidden.{forbidden_list};
 ghost use Rattle.board.specs.Boards.{cells, board_refusal};
-ghost use Rattle.report.specs.Listing.{refused_word, count_text, list_text, count_in, listing_of};
+ghost use Rattle.report.specs.Listing.{refused_word, count_text, list_text, listing_of};
 
 use super::lines::{count_into, lines_into};
 use board::Board;
-use display::LengthAnswer;
-use lent::write_out;
+use lent::{Kept, write_out};
 use referee::forbidden_points;
-use rules::CountAnswer;
+use rules::Refusal;
 use text::read_board;
-
-// Room for 225 lines of 17 bytes, and that of the count.
-#[derive(Clone, Copy)]
-struct Listing {
-    bytes: [u8; 3840],
-    len: usize,
-}
 
 // The listing of a text, written to the front of `out`, and how long it is; 13 where it does not fit. A refusal of the text is in the
 // listing.
-pub fn write_listing(text: &[u8], out: &mut [u8]) -> LengthAnswer
+#[tactic(auto, unfolding(display::specs::Answers::written, rules::specs::Answers::answer))]
+pub fn write_listing(text: &[u8], out: &mut [u8]) -> Result<usize, Refusal>
     ensures { (result ≡ written 0 out.old (listing_of text.now))
         × (out.new ≡ list_out 0 out.old (listing_of text.now)) }
 {
     let listing = listing_in(text);
-    let bytes = listing.bytes;
-    let refused = write_out(0, out, &bytes, listing.len);
-    LengthAnswer::of(refused, listing.len)
+    write_out(listing.as_slice(), out)?;
+    Ok(listing.len())
 }
 
-fn listing_in(text: &[u8]) -> Listing
-    ensures { Held 3840 (listing_of text.now) result.bytes result.len }
+// In room for 225 lines of 17 bytes, and that of the count.
+fn listing_in(text: &[u8]) -> Kept<3840>
+    ensures { result ≡ listing_of text.now }
 {
-    let read = read_board(text);
-    if read.refused != 0 {
-        return refused_listing(read.refused);
+    match read_board(text) {
+        Ok(board) => board_listing(board),
+        Err(refusal) => refused_listing(refusal),
     }
-    board_listing(read.board)
 }
 
-fn refused_listing(refused: u8) -> Listing
-    ensures { Held 3840 (count_text refused_word refused) result.bytes result.len }
+#[tactic(auto, unfolding(crate::specs::Listing::refused_word))]
+fn refused_listing(refusal: Refusal) -> Kept<3840>
+    ensures { result ≡ count_text refused_word (refusal_no refusal) }
 {
-    let mut bytes = [0u8; 3840];
-    let len = count_into(&mut bytes, 0, b"refused ", refused);
-    Listing { bytes, len }
+    let mut text = Kept::new();
+    count_into(b"refused ", refusal as u8, &mut text);
+    text
 }
 
-fn board_listing(board: Board) -> Listing
+fn board_listing(board: Board) -> Kept<3840>
     requires { board_refusal board ≡ 0 }
-    ensures { Held 3840 (list_text (forbidden_list (cells board))) result.bytes result.len }
+    ensures { result ≡ list_text (forbidden_list (cells board)) }
 {
     let mut pairs = [0u8; 450];
-    let count = count_in(forbidden_points(board, &mut pairs));
-    let mut bytes = [0u8; 3840];
-    let at = lines_into(&mut bytes, &pairs, count as usize);
-    let len = count_into(&mut bytes, at, b"forbidden ", count as u8);
-    Listing { bytes, len }
-}
-
-// How many there are; none where the question was refused.
-fn count_in(answer: CountAnswer) -> u16
-    ensures { result ≡ count_in answer }
-{
-    match answer {
-        CountAnswer::Is(n) => n,
-        CountAnswer::Refused(_) => 0,
-    }
+    let count = forbidden_points(board, &mut pairs).unwrap_or(0);
+    let mut text = Kept::new();
+    lines_into(&pairs, count, &mut text);
+    count_into(b"forbidden ", count as u8, &mut text);
+    text
 }

@@ -5,11 +5,10 @@ use Prim.Native.Nat.{ℕ, suc}
 use native.Mathlib.Omega.{arith}
 use lib.Dec.{T, eqb}
 use borrow.Author.Tests.{eqb-true, eq-eqb, ne_eqb}
+use Rattle.std.specs.Prelude.{Result, Ok, Err}
+use Rattle.rules.specs.declared.refusal.Refusal.{Refusal}
 use Rattle.rules.specs.Refusals.{unless, first}
-use Rattle.rules.specs.Answers.{test_answer, verdict_answer}
-use Rattle.rules.specs.declared.Verdict.{Verdict}
-use Rattle.rules.specs.declared.answer.TestAnswer.TheVariants as test
-use Rattle.rules.specs.declared.answer.VerdictAnswer.TheVariants as verdict
+use Rattle.rules.specs.Answers.{answer, checked, refusal_named}
 use Rattle.rules.proofs.Logic.{no_true}
 
 -- none of two is given where neither is
@@ -45,29 +44,15 @@ given f z refused a b h = go (eqb refused 0) refl
     go true e = ap f (h (eqb-true refused 0 e))
     go false e = refl
 
--- an answer given back: its value, or what was refused; `told` is what the refusal means
-module _ {B A : Type 0} (is : B → A) (no : ℕ → A) {refused told : ℕ} (v : B) (e : refused ≡ told) where
-  pub value-given : {r : B} → refused ≡ 0 → r ≡ v → is r ≡ cond (eqb told 0) (is v) (no told)
-  value-given z er = rw (eq-eqb told 0 (sym e ∙ z)) (ap is er)
+-- an answer that is no refusal: none is given, and it is the value
+pub answered : {A : Type 0} {r : Result A Refusal} {w : A} (refused : ℕ) (v : A) → r ≡ answer refused v → r ≡ Ok w → (refused ≡ 0) × (w ≡ v)
+unfolding answer
+answered {r = r} {w = w} refused v e ok = go (eqb refused 0) refl (sym ok ∙ e)
+  where
+    go : (t : Bool) → eqb refused 0 ≡ t → Ok w ≡ cond t (Ok v) (Err (refusal_named refused)) → (refused ≡ 0) × (w ≡ v)
+    go true q s = (eqb-true refused 0 q, cc)
+    go false q s = cc
 
-  pub refusal-given : (refused ≡ 0 → ⊥) → no refused ≡ cond (eqb told 0) (is v) (no told)
-  refusal-given n = rw (ne_eqb told 0 (λ z. n (e ∙ z))) (ap no e)
-
--- a verdict and a test, given back so
-module _ {refused told : ℕ} (v : Verdict) (e : refused ≡ told) where
-  pub ruled : {r : Verdict} → refused ≡ 0 → r ≡ v → verdict.Is r ≡ verdict_answer told v
-  unfolding verdict_answer
-  ruled z er = value-given verdict.Is verdict.Refused v e z er
-
-  pub not-ruled : (refused ≡ 0 → ⊥) → verdict.Refused refused ≡ verdict_answer told v
-  unfolding verdict_answer
-  not-ruled n = refusal-given verdict.Is verdict.Refused v e n
-
-module _ {refused told : ℕ} (v : Bool) (e : refused ≡ told) where
-  pub tested : {r : Bool} → refused ≡ 0 → r ≡ v → test.Is r ≡ test_answer told v
-  unfolding test_answer
-  tested z er = value-given test.Is test.Refused v e z er
-
-  pub not_tested : (refused ≡ 0 → ⊥) → test.Refused refused ≡ test_answer told v
-  unfolding test_answer
-  not_tested n = refusal-given test.Is test.Refused v e n
+-- a test that was passed
+pub unrefused : {r : Result Unit Refusal} {w : Unit} (refused : ℕ) → r ≡ checked refused → r ≡ Ok w → refused ≡ 0
+unrefused refused e ok = (answered refused tt e ok).0

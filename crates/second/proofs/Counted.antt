@@ -1,7 +1,7 @@
 -- Windows counted cell by cell: what a loop over a window's five cells has counted, and what the count says. Assumes nothing.
 use mathlib.Core.Path.{◌≡◌, refl, sym}
 use mathlib.Core.Bool.{Bool, true, false, not, ◌&&◌, ◌||◌}
-use Prim.Native.Nat.{ℕ, zero, suc, ◌+◌, ◌-◌}
+use Prim.Native.Nat.{ℕ, zero, suc, ◌+◌, ◌-◌, ◌<◌}
 use native.Mathlib.Nat.{add-zero}
 use native.Mathlib.Numerals.{add-one}
 use native.Mathlib.Omega.{arith}
@@ -9,6 +9,7 @@ use lib.Dec.{eqb}
 use borrow.Author.Tests.{le-leb}
 use Rattle.rules.specs.Bit.{digit}
 use Rattle.rules.specs.Line.{Stones, free, count, beside, pair_at}
+use Rattle.rules.specs.Forbidden.{gap_from}
 use Rattle.rules.proofs.Tables.{table5}
 
 -- the own stones on the first k cells of the window at j
@@ -58,3 +59,19 @@ pair-first w j e = rw e
 pub pair-later : (w : ℕ → Bool) (j : ℕ) → (j ≡ 0 → ⊥) → (w (j - 1) && w j) ≡ pair_at w j
 unfolding pair_at
 pair-later w j n = rw (le-leb 1 j (omega arith))
+
+-- a search over the cells j, j + 1 and j + 2 for one with no own stone
+module _ (own : Stones) (j : ℕ) where
+  gap_first : {k : ℕ} → ((m : ℕ) → m < k → own (j + m) ≡ true) → 0 < k → own j ≡ true
+  gap_first full h = rw (add-zero j) at (full 0 h)
+
+  pub gap_found : (k : ℕ) → k < 3 → ((m : ℕ) → m < k → own (j + m) ≡ true) → own (j + k) ≡ false → j + k ≡ gap_from own j
+  unfolding gap_from
+  gap_found zero h full e = let none : own j ≡ false = rw (add-zero j) at e in rw none (add-zero j)
+  gap_found (suc zero) h full e = rw (gap_first full (omega arith), e)
+  gap_found (suc (suc zero)) h full e = rw (gap_first full (omega arith), full 1 (omega arith), e)
+  gap_found (suc (suc (suc k))) h full e = absurd (omega arith)
+
+  pub gap_last : ((m : ℕ) → m < 3 → own (j + m) ≡ true) → j + 3 ≡ gap_from own j
+  unfolding gap_from
+  gap_last full = rw (gap_first full (omega arith), full 1 (omega arith), full 2 (omega arith))

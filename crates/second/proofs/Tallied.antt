@@ -1,111 +1,99 @@
 -- Rows total start by start: what a loop over a line's starts has seen, and that the count says "some" and "more than one". Assumes
 -- nothing.
-use mathlib.Core.Path.{◌≡◌, refl, sym, subst, ◌∙◌}
+use mathlib.Core.Path.{◌≡◌, subst}
 use mathlib.Core.Bool.{Bool, true, false, not, ◌&&◌, ◌||◌, cond, beq}
-use mathlib.Core.Logic.{◌⊎◌, inl, inr, ⊎_elim}
-use Prim.Native.Nat.{ℕ, zero, suc, ◌+◌, ◌≤◌, ◌<◌}
+use Rattle.std.specs.Prelude.{Option, Some, None, is_some}
+use Prim.Native.Nat.{ℕ, zero, suc, ◌+◌, ◌-◌, ◌≤◌, ◌<◌}
 use native.Mathlib.Omega.{arith}
-use native.Mathlib.Decide.{ℕ_discrete, dec_le}
-use lib.Dec.{T, leb, ltb, eqb, leb→le, le→leb}
-use borrow.Author.Tests.{eq-eqb, ne_eqb, lt-ltb, le-ltb}
+use native.Mathlib.Decide.{dec_le}
+use lib.Dec.{T, leb, eqb}
 use Rattle.rules.specs.Tools.{any_below}
 use Rattle.rules.specs.Grid.{Starts}
 use Rattle.rules.specs.Forbidden.{some_start, some_row, on_two_lines, apart, more_than_one}
-use Rattle.rules.proofs.Logic.{T_true, true-T, not-false, not-intro, any-elim, any-intro, and_left, and_right}
+use Rattle.rules.proofs.Logic.{T_true, true-T, not-false, not-intro, any-elim, any-intro}
 use Rattle.rules.proofs.Logic.{and_intro, implies, implied, implies-intro}
 use Rattle.rules.proofs.Tables.{every4, at4, beq-eq}
 use Rattle.rules.proofs.More.{TwoApart, apart-elim, apart-intro}
-use Rattle.second.specs.Count.{rows_along, row_count, first_seen}
+use Rattle.second.specs.Count.{rows_along, row_count}
 
--- the starts below j are looked at: the first is `first`, 16 where there is none, and none is two or more after it
-pub record Seen (s : ℕ → Bool) (j first : ℕ) : Type 0 where
-  pub small : first ≤ 16
-  pub here : (first ≡ 16) ⊎ ((first < j) × T (s first))
-  pub none : (k : ℕ) → k < j → k < first → T (s k) → ⊥
-  pub near : (k : ℕ) → k < j → first + 2 ≤ k → T (s k) → ⊥
+-- no start is below j
+abbrev pub NoneBelow : (ℕ → Bool) → ℕ → Type 0
+NoneBelow s j = (k : ℕ) → k < j → T (s k) → ⊥
+
+-- i is the first of the starts below j, and none of them is two or more after it
+pub record FirstBelow (s : ℕ → Bool) (j i : ℕ) : Type 0 where
+  pub before : i < j
+  pub here : T (s i)
+  pub none : NoneBelow s i
+  pub near : (k : ℕ) → k < j → i + 2 ≤ k → T (s k) → ⊥
+
+-- the starts below j are looked at: the first, if there is one, and none two or more after it
+abbrev pub Seen : (ℕ → Bool) → ℕ → Option ℕ → Type 0
+Seen s j None = NoneBelow s j
+Seen s j (Some i) = FirstBelow s j i
+
+-- what holds of none below j, and not at j, holds of none below j + 1
+last : (j : ℕ) (P : ℕ → Type 0) → ((k : ℕ) → k < j → P k → ⊥) → (P j → ⊥) → (k : ℕ) → k < j + 1 → P k → ⊥
+last j P h g k l p = at (dec_le j k)
+  where
+    at : Dec (j ≤ k) → ⊥
+    at (yes m) = g (subst P (let q : k ≡ j = omega arith in q) p)
+    at (no m) = h k (omega arith) p
 
 module _ (s : ℕ → Bool) where
-  pub seen_none : Seen s 0 16
-  seen_none = record { small = omega arith; here = inl refl; none = λ k h l t. omega arith; near = λ k h l t. omega arith }
+  pub seen_none : Seen s 0 None
+  seen_none k h t = omega arith
 
-  module _ (j first : ℕ) (hj : j < 16) (seen : Seen s j first) (found : Bool) (is : found ≡ s j) where
-    -- a start two or more after the first
-    pub seen-far : (found && leb (first + 2) j) ≡ true → 2 ≡ rows_along s
+  module _ (j : ℕ) where
+    -- no start at j
+    pub seen_passed : (first : Option ℕ) → Seen s j first → s j ≡ false → Seen s (j + 1) first
+    seen_passed None seen e = last j (λ k. T (s k)) seen (λ t. subst T e t)
+    seen_passed (Some i) seen e =
+        record {
+          before = let b = seen.before in omega arith;
+          here = seen.here;
+          none = seen.none;
+          near = λ k h l t. last j (λ x. (i + 2 ≤ x) × T (s x)) (λ x m p. seen.near x m p.0 p.1) (λ p. subst T e p.1) k h (l, t);
+        }
+
+    -- a start at j: the first, or next to it, or two or more after it
+    pub seen_first : Seen s j None → s j ≡ true → Seen s (j + 1) (Some j)
+    seen_first seen e =
+        record { before = omega arith; here = true-T e; none = seen; near = λ k h l t. omega arith }
+
+    pub seen_near : (i : ℕ) → Seen s j (Some i) → j - i < 2 → Seen s (j + 1) (Some i)
+    seen_near i seen e =
+        record {
+          before = let b = seen.before in omega arith;
+          here = seen.here;
+          none = seen.none;
+          near = λ k h l t. last j (λ x. (i + 2 ≤ x) × T (s x)) (λ x m p. seen.near x m p.0 p.1) (λ p. let q = p.0 in omega arith) k h (l, t);
+        }
+
+    pub seen_far : (i : ℕ) → j < 16 → Seen s j (Some i) → s j ≡ true → 2 ≤ j - i → 2 ≡ rows_along s
     unfolding rows_along
-    seen-far e =
-        let t = true-T e in
-        let far = leb→le (first + 2) j (and_right found (leb (first + 2) j) t) in
-        let at = subst T is (and_left found (leb (first + 2) j) t) in
-        ⊎_elim {B = (first < j) × T (s first)} (λ z. absurd (omega arith))
-        (λ z.
-        let w : TwoApart s = record { j = first; k = j; far = far; k_lt = hj; here = z.1; there = at } in
-        rw (T_true {b = apart 16 s} (apart-intro 16 s w)))
-        seen.here
+    seen_far i hj seen e far =
+        let w : TwoApart s = record { j = i; k = j; far = omega arith; k_lt = hj; here = seen.here; there = true-T e } in
+        rw (T_true {b = apart 16 s} (apart-intro 16 s w))
 
-    -- any other
-    pub seen_more : (found && leb (first + 2) j) ≡ false → Seen s (j + 1) (first_seen first j found)
-    seen_more e = go found is e (ℕ_discrete first 16)
-      where
-        -- what holds below j, and at j, holds below j + 1
-        last : (P : ℕ → Type 0) → ((k : ℕ) → k < j → P k → ⊥) → (P j → ⊥) → (k : ℕ) → k < j + 1 → P k → ⊥
-        last P h g k l p = at (dec_le j k)
-          where
-            at : Dec (j ≤ k) → ⊥
-            at (yes m) = g (subst P (let q : k ≡ j = omega arith in q) p)
-            at (no m) = h k (omega arith) p
+  -- the number is told by the first
+  pub seen_end : (first : Option ℕ) → Seen s 16 first → cond (is_some first) 1 0 ≡ rows_along s
+  unfolding rows_along
+  seen_end None seen = rw (all_near, no_start)
+    where
+      all_near : apart 16 s ≡ false
+      all_near = not-false (not-intro (apart 16 s) (λ t. let w = apart-elim 16 s t in seen w.k w.k_lt w.there))
 
-        go : (b : Bool) → b ≡ s j → (b && leb (first + 2) j) ≡ false → Dec (first ≡ 16) → Seen s (j + 1) (first_seen first j b)
-        go false q z e =
-            record {
-              small = seen.small;
-              here = ⊎_elim (λ w. inl w) (λ w. inr (omega (arith, w.0), w.1)) seen.here;
-              none = λ k h l t. last (λ x. (x < first) × T (s x)) (λ x m p. seen.none x m p.0 p.1)
-                  (λ p. subst T (sym q) p.1) k h (l, t);
-              near = λ k h l t. last (λ x. (first + 2 ≤ x) × T (s x)) (λ x m p. seen.near x m p.0 p.1)
-                  (λ p. subst T (sym q) p.1) k h (l, t);
-            }
-        go true q z (yes e) =
-            rw (eq-eqb first 16 e)
-            (record {
-              small = omega arith;
-              here = inr (omega arith, subst T q tt);
-              none = λ k h l t. seen.none k l (omega arith) t;
-              near = λ k h l t. omega arith;
-            })
-        go true q z (no e) =
-            rw (ne_eqb first 16 e)
-            (record {
-              small = seen.small;
-              here = ⊎_elim (λ w. inl w) (λ w. inr (omega (arith, w.0), w.1)) seen.here;
-              none = λ k h l t. last (λ x. (x < first) × T (s x)) (λ x m p. seen.none x m p.0 p.1)
-                  (λ p. ⊎_elim (λ w. e w) (λ w. omega (arith, w.0, p.0)) seen.here) k h (l, t);
-              near = λ k h l t. last (λ x. (first + 2 ≤ x) × T (s x)) (λ x m p. seen.near x m p.0 p.1)
-                  (λ p. subst T z (le→leb (first + 2) j p.0)) k h (l, t);
-            })
+      no_start : some_start s ≡ false
+      no_start = not-false (not-intro (any_below 16 s) (λ t. let a = any-elim 16 s t in seen a.0 a.1 a.2))
+  seen_end (Some i) seen = rw (all_near, T_true {b = some_start s} (any-intro 16 s i seen.before seen.here))
+    where
+      at : (k m : ℕ) → k + 2 ≤ m → m < 16 → T (s k) → T (s m) → Dec (i ≤ k) → ⊥
+      at k m far lt u v (yes l) = seen.near m lt (omega arith) v
+      at k m far lt u v (no l) = seen.none k (omega arith) u
 
-  module _ (first j : ℕ) (e : j ≡ 16) (seen : Seen s j first) where
-    -- no two starts are two or more apart
-    all_near : apart 16 s ≡ false
-    all_near = not-false (not-intro (apart 16 s) (λ t. let w = apart-elim 16 s t in at w.j w.k w.far w.k_lt w.here
-        w.there (dec_le first w.j)))
-      where
-        at : (i k : ℕ) → i + 2 ≤ k → k < 16 → T (s i) → T (s k) → Dec (first ≤ i) → ⊥
-        at i k far lt u v (yes l) = seen.near k (omega arith) (omega arith) v
-        at i k far lt u v (no l) = seen.none i (omega arith) (omega arith) u
-
-    some_is : some_start s ≡ ltb first 16
-    some_is =
-        ⊎_elim
-        (λ z. not-false (not-intro (any_below 16 s) (λ t. let a = any-elim 16 s t in seen.none a.0 (omega (arith, a.1))
-        (omega (arith, a.1)) a.2))
-        ∙ sym (le-ltb first 16 (omega arith)))
-        (λ z. T_true (any-intro 16 s first (omega (arith, z.0)) z.1) ∙ sym (lt-ltb first 16 (omega (arith, z.0))))
-        seen.here
-
-    -- the number is told by the first
-    pub seen_all : cond (ltb first 16) 1 0 ≡ rows_along s
-    unfolding rows_along
-    seen_all = rw (all_near, some_is)
+      all_near : apart 16 s ≡ false
+      all_near = not-false (not-intro (apart 16 s) (λ t. let w = apart-elim 16 s t in at w.j w.k w.far w.k_lt w.here w.there (dec_le i w.j)))
 
 -- ---- the count on four lines
 

@@ -1,5 +1,5 @@
 -- "More than one", counted: how many rows some starts are, on one line and on the four lines through a point.
-use Rattle.std.specs.Prelude.{Bool, ◌&&◌, cond, ℕ, ◌+◌, eqb}
+use Rattle.std.specs.Prelude.{Bool, cond, ℕ, ◌+◌}
 use Rattle.rules.specs.Grid.{Starts}
 use Rattle.rules.specs.Forbidden.{some_start, apart}
 
@@ -11,7 +11,3 @@ rows_along s = cond (apart 16 s) 2 (cond (some_start s) 1 0)
 -- count-more)
 unfoldable pub row_count : Starts → ℕ
 row_count s = rows_along (s 0) + rows_along (s 1) + rows_along (s 2) + rows_along (s 3)
-
--- the first start after cell j was looked at, 16 while there is none
-abbrev pub first_seen : ℕ → ℕ → Bool → ℕ
-first_seen first j found = cond (found && eqb first 16) j first

@@ -2,16 +2,12 @@
 ghost use Rattle.std.specs.Prelude.{◌≡◌};
 ghost use Rattle.cells.specs.Cells.{Cells};
 
-// The board of cell bytes: filled empty, then put cell by cell.
+// The board of cell bytes: filled empty, then overwritten by them.
 pub(crate) fn board_of(cells: &[u8]) -> [u8; 225]
     requires { Cells cells.now }
     ensures { result ≡ cells.now }
 {
-    let mut board = [0u8; 225];
-    let mut p = 0;
-    while p < 225 {
-        board[p] = cells[p];
-        p += 1;
-    }
+    let mut board = [0; 225];
+    board.copy_from_slice(cells);
     board
 }

@@ -23,14 +23,10 @@ fn first_gap(board: &[u8; 225], d: u8, code: u8, j: u8) -> u8
     requires { (d < 4) × (code < 225) × (j < 16) }
     ensures { result ≡ gap_from (own_along Black board.now d code) j }
 {
-    if !has_stone(board, d, code, Player::Black, j) {
-        return j;
-    }
-    if !has_stone(board, d, code, Player::Black, j + 1) {
-        return j + 1;
-    }
-    if !has_stone(board, d, code, Player::Black, j + 2) {
-        return j + 2;
+    for k in 0..3u8 {
+        if !has_stone(board, d, code, Player::Black, j + k) {
+            return j + k;
+        }
     }
     j + 3
 }

@@ -15,16 +15,16 @@ pub(crate) fn key_of(d: u8, code: u8) -> u8
 }
 
 // The direction of the line of a key.
+#[tactic(auto, unfolding(rules::specs::Point::key_dir))]
 pub(crate) fn key_direction(key: u8) -> u8
     ensures { (result ≡ key_dir key) × (result < 4) }
 {
-    if key < 15 {
-        return 0;
+    match key {
+        0..=14 => 0,
+        15..=29 => 1,
+        30..=50 => 2,
+        _ => 3,
     }
-    if key < 30 {
-        return 1;
-    }
-    if key < 51 { 2 } else { 3 }
 }
 
 // The first point of the line of a key. Vertical and horizontal lines start at the lower and at the left edge. Ascending ones start at the
@@ -33,22 +33,14 @@ pub(crate) fn first_point(key: u8) -> u8
     requires { key < 72 }
     ensures { (result ≡ key_point key 0) × (result < 225) }
 {
-    if key < 15 {
-        return point(key, 0);
+    match key {
+        0..=14 => point(key, 0),
+        15..=29 => point(0, key - 15),
+        30..=40 => point(0, 40 - key),
+        41..=50 => point(key - 40, 0),
+        51..=61 => point(0, key - 47),
+        _ => point(key - 61, 14),
     }
-    if key < 30 {
-        return point(0, key - 15);
-    }
-    if key < 41 {
-        return point(0, 40 - key);
-    }
-    if key < 51 {
-        return point(key - 40, 0);
-    }
-    if key < 62 {
-        return point(0, key - 47);
-    }
-    point(key - 61, 14)
 }
 
 // The code of the point in column x and row y: 15x + y.

@@ -4,11 +4,13 @@
 // Read `line` first, then `window` and `row` (section 4), `count` ("more than one"), `eye` and `verdict` (section 5); then `board`, `key`,
 // `row_bytes` and `list` for the lists, `refusal` and `front` for what is asked from outside.
 //
-// `requires` and `ensures` under a function's name say what is proved of it, and may be passed over. `&` between two tests is "and", `|`
+// `requires` and `ensures` under a function's name say what is proved of it, and may be passed over. `&&` between two tests is "and", `||`
 // is "or", `!` is "not", `==` is "equals", `!=` is "differs"; `+= 1` is "one more"; `code / 15` is the column and `code % 15`, the rest,
-// the row. `let` names a number, `let mut` one that changes, `while` repeats, `match` picks the line that fits. `u8` is a small number,
-// `as usize` is needed to count along the board. `&[u8; 225]` is a board that is looked at, `&mut [u8; 225]` one that may be written on. A
-// function's answer is what stands at its end or after `return`. The lines `use` at the top of a file say where its words come from.
+// the row. `let` names a number, `let mut` one that changes, `for j in 0..16` goes over the numbers from 0 to 15, `match` picks the line
+// that fits. `u8` is a small number, `as usize` is needed to count along the board. `None` is "there is none", `Some(j)` "there is one, j".
+// `&[u8; 225]` is a board that is looked at, `&mut [u8; 225]` one that may be written on, `Kept<60>` a list of at most 60 bytes, at whose end
+// `keep` puts some. A function's answer is what stands at its end or after `return`; `?` behind a test ends with its refusal, where it has
+// one. The lines `use` at the top of a file say where its words come from.
 #![tactic(auto)]
 
 mod board;

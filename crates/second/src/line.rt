@@ -1,7 +1,7 @@
 // Lines, walked by coordinates. "x and y run 0 to 14; code = 15x + y." A line is named by a point on it and by its direction:
 // 0 vertical, 1 horizontal, 2 ascending, 3 descending. A step on along it is (0, +1), (+1, 0), (+1, +1), (+1, −1). Its cells are 0, 1, 2
 // and so on, from the edge of the board on.
-ghost use Rattle.std.specs.Prelude.{◌≡◌, ◌<◌, min};
+ghost use Rattle.std.specs.Prelude.{◌≡◌, ◌<◌};
 ghost use Rattle.rules.specs.Point.{by_direction, line_no, cell_no, point_at};
 ghost use Rattle.second.specs.Walk.{size_along, steps_on, x_at, y_at};
 
@@ -24,23 +24,18 @@ pub(crate) fn cell_no(d: u8, code: u8) -> u8
 {
     let x = code / 15;
     let y = code % 15;
-    by_direction(d, y, x, least(x, y), least(x, 14 - y))
+    by_direction(d, y, x, x.min(y), x.min(14 - y))
 }
 
 // How many steps on lead from it to the edge.
+#[tactic(auto, unfolding(crate::specs::Walk::steps_on))]
 fn steps_on(d: u8, code: u8) -> u8
     requires { (d < 4) × (code < 225) }
     ensures { result ≡ steps_on d code }
 {
     let x = code / 15;
     let y = code % 15;
-    by_direction(d, 14 - y, 14 - x, least(14 - x, 14 - y), least(14 - x, y))
-}
-
-fn least(a: u8, b: u8) -> u8
-    ensures { result ≡ min a b }
-{
-    if a < b { a } else { b }
+    by_direction(d, 14 - y, 14 - x, (14 - x).min(14 - y), (14 - x).min(y))
 }
 
 // How many cells the line has: those before the point, the point itself, those after it.

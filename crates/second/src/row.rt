@@ -11,51 +11,50 @@ use super::window::{has_stone, holds, scores};
 use rules::{Player, RowKind};
 
 // Whether windows j−1 and j both score n.
+#[tactic(auto, unfolding(rules::specs::Line::pair_at))]
 fn both_score(board: &[u8; 225], d: u8, code: u8, player: Player, n: u8, j: u8) -> bool
     requires { (d < 4) × (code < 225) × (j < 16) }
     ensures { result ≡ pair_at (scores (is_black player) (size_along d code)
         (own_along player board.now d code)
         (other_along player board.now d code) n) j }
 {
-    if j == 0 {
-        return false;
-    }
-    scores(board, d, code, player, n, j - 1) & scores(board, d, code, player, n, j)
+    j > 0 && scores(board, d, code, player, n, j - 1) && scores(board, d, code, player, n, j)
 }
 
 // "windows j−1 and j are both free and both hold 4, or both 5, counted without the dead rule"
+#[tactic(auto, unfolding(rules::specs::Line::pair_at, rules::specs::Line::over_at))]
 fn both_hold(board: &[u8; 225], d: u8, code: u8, player: Player, n: u8, j: u8) -> bool
     requires { (d < 4) × (code < 225) × (j < 16) }
     ensures { result ≡ over_at (size_along d code) (own_along player board.now d code)
         (other_along player board.now d code) n j }
 {
-    if j == 0 {
-        return false;
-    }
-    holds(board, d, code, player, n, j - 1) & holds(board, d, code, player, n, j)
+    j > 0 && holds(board, d, code, player, n, j - 1) && holds(board, d, code, player, n, j)
 }
 
 // Whether cell i holds no stone, neither the player's nor the opponent's.
+#[tactic(auto, unfolding(rules::specs::Line::no_stone))]
 fn has_none(board: &[u8; 225], d: u8, code: u8, player: Player, i: u8) -> bool
     requires { (d < 4) × (code < 225) }
     ensures { result ≡ no_stone (own_along player board.now d code)
         (other_along player board.now d code) i }
 {
-    !has_stone(board, d, code, player, i) & !has_stone(board, d, code, player.opponent(), i)
+    !has_stone(board, d, code, player, i) && !has_stone(board, d, code, player.opponent(), i)
 }
 
 // "windows j−1 and j both score 2, 3, 4 and cell j+4 is empty"
+#[tactic(auto, unfolding(rules::specs::Line::open_at))]
 fn is_open(board: &[u8; 225], d: u8, code: u8, player: Player, n: u8, j: u8) -> bool
     requires { (d < 4) × (code < 225) × (j < 16) }
     ensures { result ≡ open_at (is_black player) (size_along d code) (own_along player board.now d code)
         (other_along player board.now d code) n j }
 {
-    both_score(board, d, code, player, n, j) & has_none(board, d, code, player, j + 4)
+    both_score(board, d, code, player, n, j) && has_none(board, d, code, player, j + 4)
 }
 
 // Whether a row of the kind starts at cell j of the line. "Sword, Four, Five at j: score 3, 4, 5. Two, Three, Straight at j: windows j−1
 // and j both score 2, 3, 4 and cell j+4 is empty. Overlining, Overlined at j: windows j−1 and j are both free and both hold 4, or both 5,
 // counted without the dead rule."
+#[tactic(auto, unfolding(rules::specs::Line::row_at, rules::specs::Grid::row_on))]
 pub(crate) fn is_row(
     board: &[u8; 225],
     d: u8,
@@ -80,11 +79,12 @@ pub(crate) fn is_row(
 }
 
 // Whether i is one of the n cells from j on.
+#[tactic(auto, unfolding(rules::specs::Line::among))]
 fn is_among(n: u8, j: u8, i: u8) -> bool
     requires { (n < 16) × (j < 16) }
     ensures { result ≡ among n j i }
 {
-    (j <= i) & (i < j + n)
+    (j <= i) && (i < j + n)
 }
 
 // "i is in its window, or, for the kinds on two windows, in the four shared cells j to j+3": how many cells from j on.
@@ -95,6 +95,7 @@ fn cells_through(kind: RowKind) -> u8
 }
 
 // Whether a row of the kind starts at cell j and goes through the point.
+#[tactic(auto, unfolding(rules::specs::Grid::rows_through))]
 pub(crate) fn is_through(
     board: &[u8; 225],
     d: u8,
@@ -106,10 +107,7 @@ pub(crate) fn is_through(
     requires { (d < 4) × (code < 225) × (j < 16) }
     ensures { result ≡ rows_through player kind board.now code d j }
 {
-    if !is_among(cells_through(kind), j, cell_no(d, code)) {
-        return false;
-    }
-    is_row(board, d, code, player, kind, j)
+    is_among(cells_through(kind), j, cell_no(d, code)) && is_row(board, d, code, player, kind, j)
 }
 
 // "Eyes are the row's empty cells: of five cells, or of the shared four for Two, Three and Straight." How many cells from j on.
@@ -117,27 +115,23 @@ fn cells_seen(kind: RowKind) -> u8
     ensures { (result ≡ eye_span kind) × (result < 16) }
 {
     match kind {
-        RowKind::Two => 4,
-        RowKind::Three => 4,
-        RowKind::Straight => 4,
-        RowKind::Sword => 5,
-        RowKind::Four => 5,
-        RowKind::Five => 5,
-        RowKind::Overlining => 5,
-        RowKind::Overlined => 5,
+        RowKind::Two | RowKind::Three | RowKind::Straight => 4,
+        _ => 5,
     }
 }
 
 // Whether cell i is on the line and empty.
+#[tactic(auto, unfolding(rules::specs::Line::empty_at))]
 fn is_empty(board: &[u8; 225], d: u8, code: u8, player: Player, i: u8) -> bool
     requires { (d < 4) × (code < 225) }
     ensures { result ≡ empty_at (size_along d code) (own_along player board.now d code)
         (other_along player board.now d code) i }
 {
-    (i < size_along(d, code)) & has_none(board, d, code, player, i)
+    (i < size_along(d, code)) && has_none(board, d, code, player, i)
 }
 
 // Whether cell i is an eye of the row of the kind that starts at cell j.
+#[tactic(auto, unfolding(rules::specs::Line::is_eye, rules::specs::Grid::eye_on))]
 pub(crate) fn is_eye(
     board: &[u8; 225],
     d: u8,
@@ -150,5 +144,5 @@ pub(crate) fn is_eye(
     requires { (d < 4) × (code < 225) × (j < 16) }
     ensures { result ≡ eye_on player kind board.now d (line_no d code) j i }
 {
-    is_among(cells_seen(kind), j, i) & is_empty(board, d, code, player, i)
+    is_among(cells_seen(kind), j, i) && is_empty(board, d, code, player, i)
 }

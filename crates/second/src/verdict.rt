@@ -9,7 +9,7 @@ ghost use Rattle.rules.specs.declared.RowKind.TheVariants.{Four};
 ghost use Rattle.cells.specs.Cells.{Cells};
 ghost use Rattle.second.specs.Count.{rows_along, row_count};
 
-use super::count::{count_rows, first_start};
+use super::count::count_rows;
 use super::eye::eye_of;
 use super::row::is_through;
 use rules::{Player, RowKind, Verdict};
@@ -48,15 +48,14 @@ pub(crate) fn plain(board: &mut [u8; 225], code: u8) -> Verdict
     ensures { (result ≡ plain_of board.old code) × (board.new ≡ board.old) }
 {
     if count_rows(board, code, RowKind::Overlining) >= 1 {
-        return Verdict::Overline;
+        Verdict::Overline
+    } else if count_rows(board, code, RowKind::Sword) >= 2 {
+        Verdict::DoubleFour
+    } else if is_double_three(board, code) {
+        Verdict::DoubleThree
+    } else {
+        Verdict::None
     }
-    if count_rows(board, code, RowKind::Sword) >= 2 {
-        return Verdict::DoubleFour;
-    }
-    if is_double_three(board, code) {
-        return Verdict::DoubleThree;
-    }
-    Verdict::None
 }
 
 // "DoubleThree: more than one Two through p, and on the board with Black at p more than one real Three through p."
@@ -89,23 +88,27 @@ fn count_real(board: &mut [u8; 225], code: u8) -> u8
 }
 
 // Those on one line, as in `count`.
+// stays: the loop is that of `count`, but each step of this one may ask on, and a cycle of calls gets no proof through a closure
 #[cycle(questions)]
 fn count_real_along(board: &mut [u8; 225], d: u8, code: u8) -> u8
     requires { Cells board.old × (d < 4) × (code < 225) }
     ensures { (result ≡ rows_along (real_threes strict_of board.old code d)) × (result < 3)
         × (board.new ≡ board.old) }
 {
-    let mut first = 16u8;
-    let mut j = 0u8;
-    while j < 16 {
-        let found = is_real(board, d, code, j);
-        if found & (first + 2 <= j) {
-            return 2;
+    let mut first = None;
+    for j in 0..16u8 {
+        if is_real(board, d, code, j) {
+            match first {
+                None => first = Some(j),
+                Some(i) => {
+                    if j - i >= 2 {
+                        return 2;
+                    }
+                }
+            }
         }
-        first = first_start(first, j, found);
-        j += 1;
     }
-    if first < 16 { 1 } else { 0 }
+    if first.is_some() { 1 } else { 0 }
 }
 
 // Whether a real Three through the point starts at cell j. "a Three is real when its eye completes no black five on that board and the

@@ -13,13 +13,11 @@ pub(crate) fn has_stone(board: &[u8; 225], d: u8, code: u8, player: Player, i: u
     requires { (d < 4) × (code < 225) }
     ensures { result ≡ own_along player board.now d code i }
 {
-    if i >= size_along(d, code) {
-        return false;
-    }
-    board[point_along(d, code, i) as usize] == player.number()
+    i < size_along(d, code) && board[point_along(d, code, i) as usize] == player.number()
 }
 
 // "A window at j is cells j to j+4, with j+5 at most the line's size."
+#[tactic(auto, unfolding(rules::specs::Line::inside))]
 pub(crate) fn is_inside(d: u8, code: u8, j: u8) -> bool
     requires { (d < 4) × (code < 225) × (j < 16) }
     ensures { result ≡ inside (size_along d code) j }
@@ -33,12 +31,10 @@ pub(crate) fn stones_in(board: &[u8; 225], d: u8, code: u8, player: Player, j: u
     ensures { result ≡ count (own_along player board.now d code) j }
 {
     let mut n = 0u8;
-    let mut k = 0u8;
-    while k < 5 {
+    for k in 0..5u8 {
         if has_stone(board, d, code, player, j + k) {
             n += 1;
         }
-        k += 1;
     }
     n
 }
@@ -52,44 +48,45 @@ pub(crate) fn is_free(board: &[u8; 225], d: u8, code: u8, player: Player, j: u8)
 }
 
 // Whether a stone of the player's stands at j−1 or j+5.
+#[tactic(auto, unfolding(rules::specs::Line::beside))]
 pub(crate) fn is_beside(board: &[u8; 225], d: u8, code: u8, player: Player, j: u8) -> bool
     requires { (d < 4) × (code < 225) × (j < 16) }
     ensures { result ≡ beside (own_along player board.now d code) j }
 {
-    let after = has_stone(board, d, code, player, j + 5);
-    if j == 0 {
-        return after;
-    }
-    has_stone(board, d, code, player, j - 1) | after
+    (j > 0 && has_stone(board, d, code, player, j - 1)) || has_stone(board, d, code, player, j + 5)
 }
 
 // "It is dead if not free, and for Black also if a black stone stands at j−1 or j+5."
+#[tactic(auto, unfolding(rules::specs::Line::dead))]
 pub(crate) fn is_dead(board: &[u8; 225], d: u8, code: u8, player: Player, j: u8) -> bool
     requires { (d < 4) × (code < 225) × (j < 16) }
     ensures { result ≡ dead (is_black player) (own_along player board.now d code)
         (other_along player board.now d code) j }
 {
-    !is_free(board, d, code, player, j) | (player.is_black() & is_beside(board, d, code, player, j))
+    !is_free(board, d, code, player, j)
+        || (player.is_black() && is_beside(board, d, code, player, j))
 }
 
 // "Its score is its count of own stones, 0 to 5, and −1 if dead." Whether the score of the window at j is n.
+#[tactic(auto, unfolding(rules::specs::Line::scores))]
 pub(crate) fn scores(board: &[u8; 225], d: u8, code: u8, player: Player, n: u8, j: u8) -> bool
     requires { (d < 4) × (code < 225) × (j < 16) }
     ensures { result ≡ scores (is_black player) (size_along d code) (own_along player board.now d code)
         (other_along player board.now d code) n j }
 {
     is_inside(d, code, j)
-        & !is_dead(board, d, code, player, j)
-        & (stones_in(board, d, code, player, j) == n)
+        && !is_dead(board, d, code, player, j)
+        && stones_in(board, d, code, player, j) == n
 }
 
 // Whether the window at j is free and holds n, "counted without the dead rule".
+#[tactic(auto, unfolding(rules::specs::Line::holds))]
 pub(crate) fn holds(board: &[u8; 225], d: u8, code: u8, player: Player, n: u8, j: u8) -> bool
     requires { (d < 4) × (code < 225) × (j < 16) }
     ensures { result ≡ holds (size_along d code) (own_along player board.now d code)
         (other_along player board.now d code) n j }
 {
     is_inside(d, code, j)
-        & is_free(board, d, code, player, j)
-        & (stones_in(board, d, code, player, j) == n)
+        && is_free(board, d, code, player, j)
+        && stones_in(board, d, code, player, j) == n
 }

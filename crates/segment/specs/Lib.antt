@@ -1,4 +1,3 @@
--- What the contracts of `segment` cite beside the rules: the answers, and segments and rows as values.
-pub mod Answers
+-- What the contracts of `segment` cite beside the rules: segments and rows as values.
 pub mod Segments
 pub mod Rows

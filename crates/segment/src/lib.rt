@@ -1,10 +1,8 @@
 // Segments and rows by value: what segment.rs and row.rs answer about five cells and the two beside them, with the refusals.
-#![tactic(auto)]
+#![tactic(auto, unfolding(rules::specs::Answers::answer, rules::specs::Refusals::first, rules::specs::Refusals::unless))]
 
-mod answer;
 mod row;
 mod segment;
 
-pub use answer::RowAnswer;
-pub use row::{Before, Row, matches};
-pub use segment::Segment;
+pub use row::{Row, matches};
+pub use segment::{Segment, mine};

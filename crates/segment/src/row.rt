@@ -1,58 +1,47 @@
 // Rows: a row of a line with its stones and eyes, and a row told by one or two segments.
+#![tactic(auto, unfolding(rules::specs::Answers::answer, rules::specs::Refusals::first, crate::specs::Rows::row_refusal, crate::specs::Rows::match_refusal, crate::specs::Rows::match_of, rules::specs::Line::scores, rules::specs::Line::inside, rules::specs::Line::holds, crate::specs::Rows::open_of, crate::specs::Rows::over_of))]
+
 ghost use Rattle.std.specs.Prelude.{◌≡◌};
 ghost use Rattle.rules.specs.Bit.{bit};
 ghost use Rattle.rules.specs.Numbers.{kind_of};
 ghost use Rattle.rules.specs.Line.{segment_at};
-ghost use Rattle.rules.specs.Answers.{test_answer};
-ghost use Rattle.segment.specs.Answers.{row_answer};
+ghost use Rattle.rules.specs.Answers.{answer, checked};
 ghost use Rattle.segment.specs.Rows.{unfilled, row_of, row_refusal, segment_scores, segment_holds, passes_before, open_of, over_of, match_of};
 ghost use Rattle.segment.specs.Rows.{before_refusal, match_refusal};
 
-use super::answer::RowAnswer;
 use super::segment::{Segment, count_of, is_clear, is_dead, stones_of};
-use rules::{RowKind, TestAnswer, colour_refusal, first, kind_refusal};
+use rules::{Refusal, RowKind, colour_refusal, kind_refusal};
 
 // Where the row's window starts, the colour's stones on its five cells and its eyes, bit k for cell k.
-#[derive(Clone, Copy)]
+#[derive(Clone, Copy, Debug, PartialEq, Eq)]
 pub struct Row {
     pub start: u8,
     pub stones: u8,
     pub eyes: u8,
 }
 
-// The segment just before another on the line, if it is looked at.
-#[derive(Clone, Copy)]
-pub enum Before {
-    None,
-    Is(Segment),
-}
-
 impl Row {
     // The row of a colour and a kind at a segment, whose window starts at `start`.
-    pub fn new(segment: Segment, start: u8, colour: u8, kind: u8) -> RowAnswer
-        ensures { result ≡ row_answer (row_refusal colour kind segment) (row_of start colour kind segment) }
+    pub fn new(segment: Segment, start: u8, colour: u8, kind: u8) -> Result<Row, Refusal>
+        ensures { result ≡ answer (row_refusal colour kind segment) (row_of start colour kind segment) }
     {
-        let refused = row_refusal(colour, kind, segment);
+        row_refusal(colour, kind, segment)?;
         let stones = stones_of(segment.my(colour));
         let eyes = unfilled_of(segment.my(colour), RowKind::or_overlined(kind));
-        RowAnswer::of(
-            refused,
-            Row {
-                start,
-                stones,
-                eyes,
-            },
-        )
+        Ok(Row {
+            start,
+            stones,
+            eyes,
+        })
     }
 }
 
-fn row_refusal(colour: u8, kind: u8, segment: Segment) -> u8
-    ensures { result ≡ row_refusal colour kind segment }
+fn row_refusal(colour: u8, kind: u8, segment: Segment) -> Result<(), Refusal>
+    ensures { result ≡ checked (row_refusal colour kind segment) }
 {
-    first(
-        segment.refusal(),
-        first(colour_refusal(colour), kind_refusal(kind)),
-    )
+    segment.refusal()?;
+    colour_refusal(colour)?;
+    kind_refusal(kind)
 }
 
 // The cells that a row of the kind has left to fill.
@@ -62,27 +51,26 @@ fn unfilled_of(my: u8, kind: RowKind) -> u8
     !stones_of(my) & kind.eye_cells()
 }
 
-// Whether the colour has a row of the kind at segment `cur`; `prev` is the segment that starts one cell before it on the same line.
-pub fn matches(prev: Before, cur: Segment, colour: u8, kind: u8) -> TestAnswer
-    ensures { result ≡ test_answer (match_refusal colour kind prev cur) (match_of colour (kind_of kind) prev cur) }
+// Whether the colour has a row of the kind at segment `cur`; `prev` is the segment that starts one cell before it on the same line, if it
+// is looked at.
+pub fn matches(prev: Option<Segment>, cur: Segment, colour: u8, kind: u8) -> Result<bool, Refusal>
+    ensures { result ≡ answer (match_refusal colour kind prev cur) (match_of colour (kind_of kind) prev cur) }
 {
-    let refused = first(before_refusal(prev), row_refusal(colour, kind, cur));
-    TestAnswer::of(
-        refused,
-        is_match(colour, RowKind::or_overlined(kind), prev, cur),
-    )
+    before_refusal(prev)?;
+    row_refusal(colour, kind, cur)?;
+    Ok(is_match(colour, RowKind::or_overlined(kind), prev, cur))
 }
 
-fn before_refusal(prev: Before) -> u8
-    ensures { result ≡ before_refusal prev }
+fn before_refusal(prev: Option<Segment>) -> Result<(), Refusal>
+    ensures { result ≡ checked (before_refusal prev) }
 {
     match prev {
-        Before::None => 0,
-        Before::Is(s) => s.refusal(),
+        None => Ok(()),
+        Some(s) => s.refusal(),
     }
 }
 
-fn is_match(colour: u8, kind: RowKind, prev: Before, cur: Segment) -> bool
+fn is_match(colour: u8, kind: RowKind, prev: Option<Segment>, cur: Segment) -> bool
     ensures { result ≡ match_of colour kind prev cur }
 {
     match kind {
@@ -100,58 +88,43 @@ fn is_match(colour: u8, kind: RowKind, prev: Before, cur: Segment) -> bool
 fn scores(colour: u8, n: u8, s: Segment) -> bool
     ensures { result ≡ segment_scores colour n s }
 {
-    if is_dead(s.my(colour), s.op(colour), colour == 1) {
-        return false;
-    }
-    count_of(s.my(colour)) == n
+    !is_dead(s.my(colour), s.op(colour), colour == 1) && count_of(s.my(colour)) == n
 }
 
 // Free and with n stones: no dead rule.
 fn holds(colour: u8, n: u8, s: Segment) -> bool
     ensures { result ≡ segment_holds colour n s }
 {
-    if is_clear(s.op(colour)) {
-        return count_of(s.my(colour)) == n;
-    }
-    false
+    is_clear(s.op(colour)) && count_of(s.my(colour)) == n
 }
 
-fn scores_before(colour: u8, n: u8, prev: Before) -> bool
+fn scores_before(colour: u8, n: u8, prev: Option<Segment>) -> bool
     ensures { result ≡ passes_before (segment_scores colour n) prev }
 {
     match prev {
-        Before::None => false,
-        Before::Is(s) => scores(colour, n, s),
+        None => false,
+        Some(s) => scores(colour, n, s),
     }
 }
 
-fn holds_before(colour: u8, n: u8, prev: Before) -> bool
+fn holds_before(colour: u8, n: u8, prev: Option<Segment>) -> bool
     ensures { result ≡ passes_before (segment_holds colour n) prev }
 {
     match prev {
-        Before::None => false,
-        Before::Is(s) => holds(colour, n, s),
+        None => false,
+        Some(s) => holds(colour, n, s),
     }
 }
 
 // Both score n, and the last cell, bit 4 of the stones, is empty: the stones are all in the four cells the two share.
-fn is_open(colour: u8, n: u8, prev: Before, cur: Segment) -> bool
+fn is_open(colour: u8, n: u8, prev: Option<Segment>, cur: Segment) -> bool
     ensures { result ≡ open_of colour n prev cur }
 {
-    if scores_before(colour, n, prev) {
-        if scores(colour, n, cur) {
-            return stones_of(cur.my(colour)) < 16;
-        }
-        return false;
-    }
-    false
+    scores_before(colour, n, prev) && scores(colour, n, cur) && stones_of(cur.my(colour)) < 16
 }
 
-fn is_over(colour: u8, n: u8, prev: Before, cur: Segment) -> bool
+fn is_over(colour: u8, n: u8, prev: Option<Segment>, cur: Segment) -> bool
     ensures { result ≡ over_of colour n prev cur }
 {
-    if holds_before(colour, n, prev) {
-        return holds(colour, n, cur);
-    }
-    false
+    holds_before(colour, n, prev) && holds(colour, n, cur)
 }

@@ -1,24 +1,25 @@
 -- Laws of a game's tokens as the code reads them: three by three, then the end. Assumes nothing.
 use mathlib.Core.Path.{◌≡◌, refl, ap, ap₂, sym, subst, ◌∙◌}
 use mathlib.Core.Bool.{Bool, true, false, ◌&&◌, cond}
-use mathlib.Core.List.{List, [], ◌∷◌}
+use mathlib.Core.List.{List, [], ◌∷◌, ◌++◌, append-nil, append_assoc}
 use Prim.Native.Nat.{ℕ, suc, ◌+◌, ◌*◌, ◌≤◌, ◌<◌}
 use native.Mathlib.Omega.{arith}
 use lib.Dec.{eqb, leb, ltb}
-use lib.ListN.{length, get_or, take, drop}
-use lib.Seq.{take_all}
+use lib.ListN.{length, get_or, drop, length-append}
 use borrow.Author.Tests.{eqb-true, ltb-true, ne_eqb, eq-eqb}
+use Rattle.std.specs.Prelude.{Option, Some, None, Result, Ok, Err}
+use Rattle.rules.specs.Answers.{answer, refusal_named}
+use Rattle.rules.specs.declared.refusal.Refusal.{Refusal}
+use Rattle.rules.specs.declared.refusal.Refusal.TheVariants.{OutsideSubset, ManyMoves}
 use Rattle.rules.specs.Refusals.{many_moves, outside_subset, unless, first}
 use Rattle.rules.specs.Cases.{same}
 use Rattle.rules.proofs.Logic.{no_true}
-use Rattle.lent.specs.Lists.{zeros, kept_to, kept_in, Wrote, Held}
-use Rattle.lent.proofs.Laws.{wrote_as, wrote-held}
+use Rattle.lent.specs.Lists.{kept}
+use Rattle.lent.proofs.Laws.{kept_lem}
 use Rattle.text.specs.Bytes.{text_refusal}
-use Rattle.text.proofs.Items.{keep-code}
-use Rattle.text.proofs.Marks.{next-rest, next-none}
 use Rattle.sgf.specs.Tokens.{open_bracket, close_bracket, first_token, behind_token, behind_three, tokens_of, token_at}
-use Rattle.sgf.specs.Games.{closes, node, mover, letter_no, is_point, is_front, is_move, move_in_front, point_of, moves_from, behind_moves}
-use Rattle.sgf.specs.Games.{is_end, is_game, moves_in, game_refusal, sgf_refusal, sgf_moves}
+use Rattle.sgf.specs.Games.{closes, node, mover, letter_no, is_point, is_front, is_move, move_in_front, move_read, point_read, point_of, moves_from, behind_moves}
+use Rattle.sgf.specs.Games.{is_end, is_game, end_refusal, moves_in, game_refusal, sgf_refusal, sgf_moves}
 use Rattle.sgf.proofs.Tokens.{same-eq, parts-le, tokens-step, first_of, second-of, third_of, behind-three-of, behind-six-of}
 
 -- ---- the parts of a passed test
@@ -110,6 +111,42 @@ moves-done n (a ∷ []) e = (refl, refl)
 moves-done n (a ∷ b ∷ []) e = (refl, refl)
 moves-done n (a ∷ b ∷ c ∷ ts) e = (rw e, rw e)
 
+-- a move that is read, and none
+pub read-some : (n : ℕ) (ts : List (List ℕ)) (code : ℕ) → move_read n ts ≡ Some code
+    → (move_in_front n ts ≡ true) × (code ≡ point_of (token_at ts 2))
+unfolding move_read
+read-some n ts code e = go (move_in_front n ts) refl e
+  where
+    go : (t : Bool) → move_in_front n ts ≡ t → cond t (Some (point_of (token_at ts 2))) None ≡ Some code
+        → (move_in_front n ts ≡ true) × (code ≡ point_of (token_at ts 2))
+    go true z p = (z, cc)
+    go false z p = absurd cc
+
+pub read-none : (n : ℕ) (ts : List (List ℕ)) → move_read n ts ≡ None → move_in_front n ts ≡ false
+unfolding move_read
+read-none n ts e = go (move_in_front n ts) refl e
+  where
+    go : (t : Bool) → move_in_front n ts ≡ t → cond t (Some (point_of (token_at ts 2))) None ≡ None → move_in_front n ts ≡ false
+    go true z p = absurd cc
+    go false z p = z
+
+-- .. token by token
+pub move-told : (n : ℕ) (s name value : List ℕ) → name ≡ behind_token s → value ≡ behind_token name
+    → move_read n (tokens_of s)
+    ≡ cond (same (first_token s) node && same (first_token name) (mover n ∷ [])) (point_read (first_token value)) None
+unfolding move_read is_move point_read
+move-told n s name value en ev =
+    rw (first_of s, second-of s, third_of s, ev, en)
+    (go (same (first_token s) node) (same (first_token (behind_token s)) (mover n ∷ []))
+    (is_point (first_token (behind_token (behind_token s)))))
+  where
+    go : (a b p : Bool)
+        → cond (a && (b && p)) (Some (point_of (first_token (behind_token (behind_token s))))) None
+        ≡ cond (a && b) (cond p (Some (point_of (first_token (behind_token (behind_token s))))) None) None
+    go true true p = refl
+    go true false p = refl
+    go false b p = refl
+
 -- a move has six bytes at least
 pub move-bytes : (n : ℕ) (s : List ℕ) → move_in_front n (tokens_of s) ≡ true → 6 + length (behind_three s) ≤ length s
 move-bytes n s e =
@@ -142,86 +179,104 @@ end-told s =
     go (b ∷ f) true g ts = rw (ne_eqb (length (b ∷ f)) 0 (λ z. omega arith)) (and-true (same (b ∷ f) closes))
     go (b ∷ f) false g ts = rw (ne_eqb (length (b ∷ f)) 0 (λ z. omega arith)) (and-false (same (b ∷ f) closes))
 
--- ---- the loop over moves: n codes are kept, and the rest has the other moves
+-- where the end is not behind the moves, and where it is
+module _ {A : Type 0} (ts : List (List ℕ)) (v : A) where
+  pub end-refused : is_end ts ≡ false → ◌≡◌ {A = Result A Refusal} (Err OutsideSubset) (answer (end_refusal ts) v)
+  unfolding end_refusal unless answer
+  end-refused e = rw e
 
-abbrev pub Reading : List ℕ → List ℕ → ℕ → List ℕ → Type 0
-Reading s codes n rest =
-    (6 * n + length rest ≤ 4096) × (drop n (moves_from 0 (tokens_of s)) ≡ moves_from n (tokens_of rest))
-    × (behind_moves 0 (tokens_of s) ≡ behind_moves n (tokens_of rest))
-    × Wrote (zeros 682) 0 (take n (moves_from 0 (tokens_of s))) codes n
+  pub end-there : is_end ts ≡ true → ◌≡◌ {A = Result A Refusal} (Ok v) (answer (end_refusal ts) v)
+  unfolding end_refusal unless answer
+  end-there e = rw e
 
-module _ (s codes rest : List ℕ) (n : ℕ) (inv : Reading s codes n rest) where
-  abbrev all : List ℕ
-  all = moves_from 0 (tokens_of s)
+-- ---- the loop over moves: the codes that are kept, and the rest of the text, which has the other moves
 
+pub record Reading (s codes rest : List ℕ) : Type 0 where
+  pub room : 6 * length codes + length rest ≤ 4096
+  pub codes_are : moves_from 0 (tokens_of s) ≡ codes ++ moves_from (length codes) (tokens_of rest)
+  pub behind : behind_moves 0 (tokens_of s) ≡ behind_moves (length codes) (tokens_of rest)
+
+pub reading-none : (s : List ℕ) → length s ≤ 4096 → Reading s [] s
+reading-none s h = record { room = omega arith; codes_are = refl; behind = refl }
+
+module _ (s codes rest : List ℕ) (inv : Reading s codes rest) where
   -- a turn keeps one code more
-  module _ (on : move_in_front n (tokens_of rest) ≡ true) (code : ℕ) (is : code ≡ point_of (token_at (tokens_of rest) 2)) (r : ℕ)
-      (codes' : List ℕ) (kept : (r ≡ kept_to codes n true (code ∷ [])) × (codes' ≡ kept_in codes n true (code ∷ [])))
-      (next : List ℕ) (behind : next ≡ behind_three rest) where
-    others : List ℕ
-    others = moves_from (suc n) (drop 3 (tokens_of rest))
-
+  module _ (on : move_in_front (length codes) (tokens_of rest) ≡ true) (next : List ℕ) (behind : next ≡ behind_three rest) where
     pub shorter : 6 + length next ≤ length rest
-    shorter = let e = ap length behind in omega (arith, move-bytes n rest on)
+    shorter = let e = ap length behind in omega (arith, move-bytes (length codes) rest on)
 
-    left : drop n all ≡ code ∷ others
-    unfolding others
-    left =
-        inv.1 ∙ (moves_more n (tokens_of rest) on).0
-        ∙ ap (λ (k : ℕ). k ∷ moves_from (suc n) (drop 3 (tokens_of rest))) (sym is)
-
-    kept-code : (r ≡ n + 1) × Wrote (zeros 682) 0 (take (n + 1) all) codes' (n + 1)
-    kept-code = keep-code 682 all n code others left (omega (arith, inv.0, shorter)) codes inv.3 r codes' kept
-
-    tokens : drop 3 (tokens_of rest) ≡ tokens_of next
-    tokens = behind-three-of rest ∙ ap tokens_of (sym behind)
-
-    pub turned : Reading s codes' r next
-    unfolding others
-    turned =
-        let up : r ≡ n + 1 = kept-code.0 in
-        let z : suc n ≡ r = omega arith in (
-          omega (arith, inv.0, shorter),
-          ap (λ (k : ℕ). drop k all) up ∙ next-rest 0 all n code others left ∙ ap₂ moves_from z tokens,
-          inv.2 ∙ (moves_more n (tokens_of rest) on).1 ∙ ap₂ behind_moves z tokens,
-          subst (λ (k : ℕ). Wrote (zeros 682) 0 (take k all) codes' k) (sym up) kept-code.1,
-        )
+    pub reading-more : (code : ℕ) → code ≡ point_of (token_at (tokens_of rest) 2) → (new : List ℕ) → new ≡ kept 682 codes (code ∷ [])
+        → Reading s new next
+    reading-more code is new k =
+        let n = length codes in
+        let put = k ∙ kept_lem 682 codes (code ∷ []) (omega (arith, inv.room, shorter)) in
+        let long = ap length put ∙ length-append codes (code ∷ []) in
+        let z : suc n ≡ length new = omega arith in
+        let tokens = behind-three-of rest ∙ ap tokens_of (sym behind) in
+        record {
+          room = omega (arith, inv.room, shorter);
+          codes_are =
+              inv.codes_are ∙ ap (λ (l : List ℕ). codes ++ l) ((moves_more n (tokens_of rest) on).0
+              ∙ ap₂ (λ (k : ℕ) (l : List ℕ). k ∷ l) (sym is) (ap₂ moves_from z tokens))
+              ∙ sym (append_assoc codes (code ∷ []) (moves_from (length new) (tokens_of next)))
+              ∙ ap (λ (l : List ℕ). l ++ moves_from (length new) (tokens_of next)) (sym put);
+          behind = inv.behind ∙ (moves_more n (tokens_of rest) on).1 ∙ ap₂ behind_moves z tokens;
+        }
 
   -- no move is left: all are kept
-  module _ (off : move_in_front n (tokens_of rest) ≡ false) where
-    all-kept : take n all ≡ all
-    all-kept = take_all n all (next-none 0 all n (inv.1 ∙ (moves-done n (tokens_of rest) off).0))
-
-    pub moves-held : Held 682 all codes n
-    moves-held =
-        let w : Wrote (zeros 682) 0 all codes n = wrote_as inv.3 all-kept in
-        let p = w.place in
-        wrote-held 682 all codes n w (omega (arith, inv.0))
+  module _ (off : move_in_front (length codes) (tokens_of rest) ≡ false) where
+    pub all-kept : codes ≡ moves_from 0 (tokens_of s)
+    all-kept =
+        sym (inv.codes_are ∙ ap (λ (l : List ℕ). codes ++ l) (moves-done (length codes) (tokens_of rest) off).0 ∙ append-nil codes)
 
     pub left_behind : behind_moves 0 (tokens_of s) ≡ tokens_of rest
-    left_behind = inv.2 ∙ (moves-done n (tokens_of rest) off).1
+    left_behind = inv.behind ∙ (moves-done (length codes) (tokens_of rest) off).1
 
 -- ---- the whole text
 
--- what is refused of any text is refused first
-pub text-first : (s : List ℕ) → (text_refusal s ≡ 0 → ⊥) → text_refusal s ≡ sgf_refusal s
-unfolding sgf_refusal first
-text-first s h = rw (ne_eqb (text_refusal s) 0 h)
+module _ (s rest : List ℕ) (behind : rest ≡ behind_three (behind_three s)) where
+  tokens-left : tokens_of rest ≡ drop 6 (tokens_of s)
+  tokens-left = ap tokens_of behind ∙ sym (behind-six-of s)
 
-module _ (s : List ℕ) (free : text_refusal s ≡ 0) where
-  module _ (rest : List ℕ) (behind : rest ≡ behind_three (behind_three s)) where
-    tokens-left : tokens_of rest ≡ drop 6 (tokens_of s)
-    tokens-left = ap tokens_of behind ∙ sym (behind-six-of s)
+  pub moves-told : moves_from 0 (tokens_of rest) ≡ sgf_moves s
+  unfolding sgf_moves moves_in
+  moves-told = ap (moves_from 0) tokens-left
 
-    pub moves-told : moves_from 0 (tokens_of rest) ≡ sgf_moves s
-    unfolding sgf_moves moves_in
-    moves-told = ap (moves_from 0) tokens-left
+  -- the front and the end, each refused by itself
+  pub refusal-told : sgf_refusal s
+      ≡ first (text_refusal s) (first (unless (is_front (tokens_of s)) outside_subset)
+      (first (end_refusal (behind_moves 0 (tokens_of rest))) (unless (leb (length (sgf_moves s)) 225) many_moves)))
+  unfolding sgf_refusal game_refusal is_game end_refusal sgf_moves first unless
+  refusal-told = rw tokens-left (go (is_front (tokens_of s)) (is_end (behind_moves 0 (drop 6 (tokens_of s)))))
+    where
+      go : (a b : Bool)
+          → first (text_refusal s) (first (unless (a && b) outside_subset) (unless (leb (length (moves_in (tokens_of s))) 225) many_moves))
+          ≡ first (text_refusal s) (first (unless a outside_subset) (first (unless b outside_subset)
+          (unless (leb (length (moves_in (tokens_of s))) 225) many_moves)))
+      go true b = refl
+      go false b = refl
 
-    pub refusal-told : (front ended : Bool) (n : ℕ) → front ≡ is_front (tokens_of s) → ended ≡ is_end (behind_moves 0 (tokens_of rest))
-        → n ≡ length (moves_from 0 (tokens_of rest))
-        → first (unless (front && ended) outside_subset) (unless (leb n 225) many_moves) ≡ sgf_refusal s
-    unfolding sgf_refusal game_refusal is_game moves_in first
-    refusal-told front ended n ef ee en =
-        let e = ee ∙ ap (λ (ts : List (List ℕ)). is_end (behind_moves 0 ts)) tokens-left in
-        let m = en ∙ ap (λ (ts : List (List ℕ)). length (moves_from 0 ts)) tokens-left in
-        rw (eq-eqb (text_refusal s) 0 free, ef, e, m)
+  -- .. and what is answered, test by test
+  module _ (free : text_refusal s ≡ 0) where
+    pub front-refused : is_front (tokens_of s) ≡ false
+        → ◌≡◌ {A = Result (List ℕ) Refusal} (Err OutsideSubset) (answer (sgf_refusal s) (sgf_moves s))
+    unfolding answer first unless
+    front-refused e = rw (refusal-told, free, e)
+
+    module _ (front : is_front (tokens_of s) ≡ true) where
+      pub moves-refused : (end_refusal (behind_moves 0 (tokens_of rest)) ≡ 0 → ⊥) → (r : Refusal)
+          → r ≡ refusal_named (end_refusal (behind_moves 0 (tokens_of rest)))
+          → ◌≡◌ {A = Result (List ℕ) Refusal} (Err r) (answer (sgf_refusal s) (sgf_moves s))
+      unfolding answer first unless
+      moves-refused n r e = rw (refusal-told, free, front, ne_eqb (end_refusal (behind_moves 0 (tokens_of rest))) 0 n) (rw (ne_eqb (end_refusal (behind_moves 0 (tokens_of rest))) 0 n, e))
+
+      module _ (ended : end_refusal (behind_moves 0 (tokens_of rest)) ≡ 0) where
+        pub many-refused : leb (length (sgf_moves s)) 225 ≡ false
+            → ◌≡◌ {A = Result (List ℕ) Refusal} (Err ManyMoves) (answer (sgf_refusal s) (sgf_moves s))
+        unfolding answer first unless
+        many-refused e = rw (refusal-told, free, front, ended, e)
+
+        pub game-read : leb (length (sgf_moves s)) 225 ≡ true
+            → ◌≡◌ {A = Result (List ℕ) Refusal} (Ok (sgf_moves s)) (answer (sgf_refusal s) (sgf_moves s))
+        unfolding answer first unless
+        game-read e = rw (refusal-told, free, front, ended, e)

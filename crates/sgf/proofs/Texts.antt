@@ -1,14 +1,14 @@
 -- Laws of the text that is written: its tokens one behind the other, six bytes a move, 14 + 6 n in all. Assumes nothing.
 use mathlib.Core.Path.{◌≡◌, refl, ap, sym, ◌∙◌}
-use mathlib.Core.Bool.{true}
 use mathlib.Core.List.{List, [], ◌∷◌, ◌++◌, append-nil, append_assoc}
 use Prim.Native.Nat.{ℕ, zero, suc, ◌+◌, ◌*◌, ◌≤◌, ◌<◌}
 use native.Mathlib.Nat.{not-suc-le-zero, le_of_suc-le-suc}
 use native.Mathlib.Numerals.{add-one}
 use native.Mathlib.Omega.{arith}
 use lib.ListN.{length, get_or, take, length-append}
-use Rattle.lent.specs.Lists.{kept_to, kept_in, Wrote, Held, zeros}
-use Rattle.lent.proofs.Laws.{wrote_none, wrote-keep, wrote-all, wrote_as, wrote-held}
+use lib.Seq.{take_all, length-take-le}
+use Rattle.lent.specs.Lists.{kept}
+use Rattle.lent.proofs.Laws.{kept_lem}
 use Rattle.sgf.specs.Tokens.{joined}
 use Rattle.sgf.specs.Games.{closes, mover, point_value, move_tokens, game_tokens, sgf_text, moves_text, move_text}
 
@@ -88,18 +88,28 @@ pub corners : (point_value 0 ≡ 91 ∷ 97 ∷ 111 ∷ 93 ∷ []) × (point_valu
 unfolding point_value
 corners = (refl, refl)
 
--- ---- kept in a buffer
+-- ---- kept part by part: the front, the moves, the end
+module _ (moves : List ℕ) (room : length moves ≤ 225) where
+  pub text-none : (text : List ℕ) → text ≡ kept 1364 [] front_text → text ≡ front_text ++ moves_text 0 (take 0 moves)
+  text-none text k =
+      k ∙ kept_lem 1364 [] front_text (omega arith) ∙ sym (append-nil front_text)
+      ∙ ap (λ (l : List ℕ). front_text ++ l) (sym (moves-none 0))
 
--- an item kept where there is room
-pub kept : {buf item : List ℕ} {n r : ℕ} {buf' : List ℕ} → n + length item ≤ length buf
-    → (r ≡ kept_to buf n true item) × (buf' ≡ kept_in buf n true item) → Wrote buf n item buf' r
-kept {buf} {item} {n} {r} {buf'} room k = wrote-keep buf n [] buf n true item r buf' (wrote_none buf n) (omega arith) k
+  pub text_more : (i : ℕ) → i < length moves → (text : List ℕ) → text ≡ front_text ++ moves_text 0 (take i moves) → (new : List ℕ)
+      → new ≡ kept 1364 text (move_text i (get_or moves i 0)) → new ≡ front_text ++ moves_text 0 (take (i + 1) moves)
+  text_more i h text e new k =
+      let so_far = moves-length 0 (take i moves) in
+      let shown = length-take-le i moves (omega arith) in
+      let long = ap length e ∙ length-append front_text (moves_text 0 (take i moves)) in
+      let item = move_text i (get_or moves i 0) in
+      k ∙ kept_lem 1364 text item (omega (arith, move-length i (get_or moves i 0)))
+      ∙ ap (λ (l : List ℕ). l ++ item) e ∙ append_assoc front_text (moves_text 0 (take i moves)) item
+      ∙ ap (λ (l : List ℕ). front_text ++ l) (text-more i moves h)
 
--- the three parts of a text, one behind the other in a fresh buffer
-pub text-held : (size : ℕ) (moves : List ℕ) {b₁ b₂ b₃ : List ℕ} {n₁ n₂ n₃ : ℕ} → 14 + 6 * length moves ≤ size
-    → Wrote (zeros size) 0 front_text b₁ n₁ → Wrote b₁ n₁ (moves_text 0 moves) b₂ n₂ → Wrote b₂ n₂ closes b₃ n₃
-    → Held size (sgf_text moves) b₃ n₃
-text-held size moves {b₁} {b₂} {b₃} {n₁} {n₂} {n₃} room f m c =
-    let end = wrote-all b₁ n₁ (moves_text 0 moves) closes b₂ b₃ n₂ n₃ m c in
-    let all = wrote-all (zeros size) 0 front_text (moves_text 0 moves ++ closes) b₁ b₃ n₁ n₃ f end in
-    wrote-held size (sgf_text moves) b₃ n₃ (wrote_as all (sym (text-parts moves))) (omega (arith, text-length moves))
+  pub text-done : (i : ℕ) → i ≡ length moves → (text : List ℕ) → text ≡ front_text ++ moves_text 0 (take i moves) → (new : List ℕ)
+      → new ≡ kept 1364 text closes → new ≡ sgf_text moves
+  text-done i z text e new k =
+      let whole = e ∙ ap (λ (l : List ℕ). front_text ++ moves_text 0 l) (take_all i moves (omega arith)) in
+      let long = ap length whole ∙ length-append front_text (moves_text 0 moves) in
+      k ∙ kept_lem 1364 text closes (omega (arith, moves-length 0 moves)) ∙ ap (λ (l : List ℕ). l ++ closes) whole
+      ∙ append_assoc front_text (moves_text 0 moves) closes ∙ sym (text-parts moves)

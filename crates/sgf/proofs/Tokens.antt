@@ -7,10 +7,11 @@ use native.Mathlib.Nat.{le_refl}
 use native.Mathlib.Omega.{arith}
 use lib.Dec.{eqb}
 use lib.ListN.{length, take, drop, length-append, length-take, length-drop, take-append-drop}
+use lib.Pointwise.{pointwise}
 use lib.Seq.{drop-nil, drop-drop}
 use borrow.Author.Tests.{eq-eqb, eqb-true}
 use Rattle.rules.specs.Cases.{same}
-use Rattle.rules.proofs.Logic.{T_true, true-T, no_true, both_ways}
+use Rattle.rules.proofs.Logic.{no_true}
 use Rattle.lent.specs.Slices.{first_at, find_at}
 use Rattle.text.specs.Bytes.{trim_start, has, leading}
 use Rattle.text.proofs.Places.{trim_start_lem}
@@ -33,11 +34,12 @@ same-eq (x ∷ a) (y ∷ b) e = go (eqb x y) refl e (same-eq a b)
     go true q e r = rw (eqb-true x y q, r e)
     go false q e r = absurd (no_true e)
 
--- a test that says whether they are
-pub same-told : (a b : List ℕ) (r : Bool) → (r ≡ true → a ≡ b) × (a ≡ b → r ≡ true) → r ≡ same a b
-same-told a b r h =
-    both_ways r (same a b) (λ t. true-T (ap (λ (l : List ℕ). same l b) (h.0 (T_true t)) ∙ same_refl b))
-    (λ t. true-T (h.1 (same-eq a b (T_true t))))
+-- the library's test of two slices
+pub same-pointwise : (a b : List ℕ) → pointwise eqb a b ≡ same a b
+same-pointwise [] [] = refl
+same-pointwise [] (y ∷ b) = refl
+same-pointwise (x ∷ a) [] = refl
+same-pointwise (x ∷ a) (y ∷ b) = ap (λ (t : Bool). eqb x y && t) (same-pointwise a b)
 
 -- ---- one token
 

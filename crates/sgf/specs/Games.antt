@@ -1,6 +1,6 @@
 -- Games as SGF text (document 02, No. 10): "Clubs exchange games as SGF, where game number 4 stands for gomoku and renju." The quoted
 -- sentences are document 02's. A game is a list of tokens: written one behind the other, read from the tokens of any text.
-use Rattle.std.specs.Prelude.{Bool, false, ◌&&◌, cond, List, [], ◌∷◌, ◌++◌, ℕ, suc, ◌+◌, ◌-◌, ◌%◌, eqb, leb, ltb, length, get_or, drop}
+use Rattle.std.specs.Prelude.{Bool, false, ◌&&◌, cond, List, [], ◌∷◌, ◌++◌, ℕ, suc, ◌+◌, ◌-◌, ◌%◌, eqb, leb, ltb, length, get_or, drop, Option, Some, None}
 use Rattle.rules.specs.Refusals.{many_moves, outside_subset, unless, first}
 use Rattle.rules.specs.Point.{x_of, y_of, code_of}
 use Rattle.rules.specs.Cases.{same}
@@ -78,6 +78,10 @@ is_point t =
 unfoldable pub point_of : List ℕ → ℕ
 point_of t = code_of (letter_no (get_or t 1 0)) (14 - letter_no (get_or t 2 0))
 
+-- the point of a value, where it is one
+unfoldable pub point_read : List ℕ → Option ℕ
+point_read t = cond (is_point t) (Some (point_of t)) None
+
 -- three tokens that are these
 unfoldable pub are_three : List ℕ → List ℕ → List ℕ → List (List ℕ) → Bool
 are_three a b c ts = same (token_at ts 0) a && (same (token_at ts 1) b && same (token_at ts 2) c)
@@ -91,6 +95,10 @@ is_move n a b c = same a node && (same b (mover n ∷ []) && is_point c)
 
 abbrev pub move_in_front : ℕ → List (List ℕ) → Bool
 move_in_front n ts = is_move n (token_at ts 0) (token_at ts 1) (token_at ts 2)
+
+-- the point of move n, where it stands in front
+unfoldable pub move_read : ℕ → List (List ℕ) → Option ℕ
+move_read n ts = cond (move_in_front n ts) (Some (point_of (token_at ts 2))) None
 
 -- the moves in front, from move n on, and the tokens behind them
 unfoldable pub moves_from : ℕ → List (List ℕ) → List ℕ
@@ -119,6 +127,10 @@ unfoldable pub moves_in : List (List ℕ) → List ℕ
 moves_in ts = moves_from 0 (drop 6 ts)
 
 -- ---- refused: "1 and 2 first, 20 for anything outside the subset, 14 and 13 after it"
+
+-- where the end is not behind the moves
+unfoldable pub end_refusal : List (List ℕ) → ℕ
+end_refusal ts = unless (is_end ts) outside_subset
 
 unfoldable pub game_refusal : List (List ℕ) → ℕ
 game_refusal ts = first (unless (is_game ts) outside_subset) (unless (leb (length (moves_in ts)) 225) many_moves)

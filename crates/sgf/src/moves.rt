@@ -1,12 +1,13 @@
 // A game's tokens, three by three: the front is two times three, a move is three, and the end is one.
-ghost use Rattle.std.specs.Prelude.{◌≡◌, true, ◌≤◌, length};
-ghost use Rattle.lent.specs.Lists.{Held};
-ghost use Rattle.sgf.specs.Tokens.{tokens_of, token_at, behind_three};
-ghost use Rattle.sgf.specs.Games.{is_point, point_of, are_three, is_front, move_in_front, moves_from, behind_moves, is_end};
+ghost use Rattle.std.specs.Prelude.{◌≡◌, ◌≤◌, length};
+ghost use Rattle.rules.specs.Answers.{answer};
+ghost use Rattle.sgf.specs.Tokens.{tokens_of, behind_three};
+ghost use Rattle.sgf.specs.Games.{are_three, is_front, move_read, moves_from, behind_moves, end_refusal, is_end};
 
 use super::token::{behind_token, first_token, is_token};
-use super::value::{is_point, mover, point_of};
-use lent::keep;
+use super::value::{mover, point_of};
+use lent::Kept;
+use rules::{Refusal, unless};
 
 // What is behind three tokens.
 fn behind_three(s: &[u8]) -> &[u8]
@@ -37,21 +38,18 @@ pub(crate) fn behind_front(s: &[u8]) -> &[u8]
     behind_three(behind_three(s))
 }
 
-// Whether the first three tokens are move n.
-fn is_move(s: &[u8], n: usize) -> bool
-    ensures { result ≡ move_in_front n (tokens_of s.now) }
+// The point of move n, where the first three tokens are one.
+#[tactic(auto, unfolding(crate::specs::Games::move_read, crate::specs::Games::is_move, crate::specs::Games::point_read))]
+fn move_at(s: &[u8], n: usize) -> Option<u8>
+    ensures { result ≡ move_read n (tokens_of s.now) }
 {
     let name = behind_token(s);
     let value = behind_token(name);
-    is_token(s, b";") & (is_token(name, &[mover(n)]) & is_point(first_token(value)))
-}
-
-// The point of a move.
-fn move_point(s: &[u8]) -> u8
-    requires { is_point (token_at (tokens_of s.now) 2) ≡ true }
-    ensures { result ≡ point_of (token_at (tokens_of s.now) 2) }
-{
-    point_of(first_token(behind_token(behind_token(s))))
+    if is_token(s, b";") & is_token(name, &[mover(n)]) {
+        point_of(first_token(value))
+    } else {
+        None
+    }
 }
 
 // Whether `)` alone is left.
@@ -61,31 +59,17 @@ fn is_end(s: &[u8]) -> bool
     is_token(s, b")") & (first_token(behind_token(s)).len() == 0)
 }
 
-// The moves that stand in front, and whether the end is behind them. A move has six bytes at least, so there are at most 682.
-#[derive(Clone, Copy)]
-pub(crate) struct Moves {
-    pub(crate) ended: bool,
-    pub(crate) codes: [u8; 682],
-    pub(crate) len: usize,
-}
-
-pub(crate) fn moves_in(s: &[u8]) -> Moves
+// The moves that stand in front, where the end is behind them. A move has six bytes at least, so there are at most 682.
+pub(crate) fn moves_in(s: &[u8]) -> Result<Kept<682>, Refusal>
     requires { length s.now ≤ 4096 }
-    ensures { (result.ended ≡ is_end (behind_moves 0 (tokens_of s.now)))
-        × Held 682 (moves_from 0 (tokens_of s.now)) result.codes result.len }
+    ensures { result ≡ answer (end_refusal (behind_moves 0 (tokens_of s.now))) (moves_from 0 (tokens_of s.now)) }
 {
-    let mut codes = [0u8; 682];
-    let mut n = 0usize;
+    let mut codes = Kept::new();
     let mut rest = s;
-    while is_move(rest, n) {
-        n = keep(&mut codes, n, true, &[move_point(rest)]);
-        let next = behind_three(rest);
-        rest = next;
+    'moves: while let Some(code) = move_at(rest, codes.len()) {
+        codes.keep(&[code]);
+        rest = behind_three(rest);
     }
-    let ended = is_end(rest);
-    Moves {
-        ended,
-        codes,
-        len: n,
-    }
+    unless(is_end(rest), Refusal::OutsideSubset)?;
+    Ok(codes)
 }

@@ -3,16 +3,15 @@ ghost use Rattle.std.specs.Prelude.{◌≡◌};
 ghost use Rattle.rules.specs.Cases.{same};
 ghost use Rattle.sgf.specs.Tokens.{capital, value_length, name_length, token_length, first_token, behind_token};
 
-use cells::value_at;
-use check::same;
 use lent::{find, head, tail};
 use text::leading_space;
 
 // Whether a byte belongs to a property's name.
+#[tactic(auto, unfolding(crate::specs::Tokens::capital))]
 fn is_capital(b: u8) -> bool
     ensures { result ≡ capital b }
 {
-    (b'A' <= b) & (b <= b'Z')
+    b.is_ascii_uppercase()
 }
 
 // How many bytes a value has that a text begins with: up to the first closing bracket; the opening one alone where there is none.
@@ -20,38 +19,31 @@ fn value_length(s: &[u8]) -> usize
     ensures { result ≡ value_length s.now }
 {
     let end = find(s, b']');
-    if end < s.len() {
-        return end + 1;
-    }
-    1
+    if end < s.len() { end + 1 } else { 1 }
 }
 
 // How many capital letters a text begins with.
 fn name_length(s: &[u8]) -> usize
     ensures { result ≡ name_length s.now }
 {
-    let mut i = 0;
-    while i < s.len() {
+    for i in 0..s.len() {
         if !is_capital(s[i]) {
             return i;
         }
-        i += 1;
     }
-    i
+    s.len()
 }
 
 // How many bytes the token has that a text begins with.
+#[tactic(auto, unfolding(crate::specs::Tokens::token_length))]
 fn token_length(s: &[u8]) -> usize
     ensures { result ≡ token_length s.now }
 {
-    let b = value_at(s, 0);
-    if b == b'[' {
-        return value_length(s);
+    match s {
+        [b'[', ..] => value_length(s),
+        [b, ..] if is_capital(*b) => name_length(s),
+        _ => 1,
     }
-    if is_capital(b) {
-        return name_length(s);
-    }
-    1
 }
 
 // The first token of a text, nothing where only white space is left.
@@ -74,5 +66,5 @@ pub(crate) fn behind_token(s: &[u8]) -> &[u8]
 pub(crate) fn is_token(s: &[u8], token: &[u8]) -> bool
     ensures { result ≡ same (first_token s.now) token.now }
 {
-    same(first_token(s), token)
+    first_token(s) == token
 }

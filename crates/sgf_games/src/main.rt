@@ -3,10 +3,10 @@
 // standard output.
 #![tactic(auto)]
 
-use display::{LengthAnswer, write_points};
+use display::write_points;
 use lent::head;
 use program::{is_cut_short, is_word, read_full, refuse, say, text_room, word_count};
-use rules::CountAnswer;
+use rules::Refusal;
 use sgf::{from_sgf, to_sgf};
 use text::read_points;
 
@@ -30,62 +30,32 @@ fn convert<R: Input + Print + Eprint>(rt: &R, back: bool) {
         say(rt, "sgf: standard input cannot be read\n");
         return;
     }
-    if back {
-        give_moves(rt, head(&bytes, n));
-        return;
+    let text = head(&bytes, n);
+    let mut out = [0u8; 1364];
+    let written = if back {
+        moves_text(text, &mut out)
+    } else {
+        sgf_text(text, &mut out)
+    };
+    match written {
+        Ok(len) => write_line(rt, head(&out, len)),
+        Err(refusal) => refuse(rt, refusal),
     }
-    give_sgf(rt, head(&bytes, n));
 }
 
 // Moves text as SGF.
-fn give_sgf<R: Print + Eprint>(rt: &R, text: &[u8]) {
+fn sgf_text(text: &[u8], out: &mut [u8]) -> Result<usize, Refusal> {
     let mut codes = text_room();
-    match read_points(text, &mut codes) {
-        CountAnswer::Is(count) => {
-            give_text(rt, head(&codes, count as usize));
-        }
-        CountAnswer::Refused(number) => {
-            refuse(rt, number);
-        }
-    }
+    let count = read_points(text, &mut codes)?;
+    let len = to_sgf(head(&codes, count as usize), out)?;
+    Ok(len as usize)
 }
 
-fn give_text<R: Print + Eprint>(rt: &R, moves: &[u8]) {
-    let mut out = [0u8; 1364];
-    match to_sgf(moves, &mut out) {
-        CountAnswer::Is(len) => {
-            write_line(rt, head(&out, len as usize));
-        }
-        CountAnswer::Refused(number) => {
-            refuse(rt, number);
-        }
-    }
-}
-
-// SGF as moves text. A game without moves is an empty line.
-fn give_moves<R: Print + Eprint>(rt: &R, text: &[u8]) {
+// SGF as moves text. A game without moves is an empty line. A point has three bytes at most, and a comma behind it.
+fn moves_text(text: &[u8], out: &mut [u8]) -> Result<usize, Refusal> {
     let mut codes = [0u8; 225];
-    match from_sgf(text, &mut codes) {
-        CountAnswer::Is(count) => {
-            give_points(rt, head(&codes, count as usize));
-        }
-        CountAnswer::Refused(number) => {
-            refuse(rt, number);
-        }
-    }
-}
-
-// A point has three bytes at most, and a comma behind it.
-fn give_points<R: Print + Eprint>(rt: &R, codes: &[u8]) {
-    let mut out = [0u8; 900];
-    match write_points(codes, &mut out) {
-        LengthAnswer::Is(len) => {
-            write_line(rt, head(&out, len));
-        }
-        LengthAnswer::Refused(number) => {
-            refuse(rt, number);
-        }
-    }
+    let count = from_sgf(text, &mut codes)?;
+    write_points(head(&codes, count as usize), out)
 }
 
 fn write_line<R: Print + Eprint>(rt: &R, bytes: &[u8]) {

@@ -15,11 +15,9 @@ use contract.Lifetimes.{Lfts}
 use denote.Ref.{Bor}
 use denote.MutBor.{MutBor}
 use Rattle.rules.specs.Refusals.{no_room, unless}
-use Rattle.rules.specs.Answers.{count_answer, number_answer}
-use Rattle.rules.specs.declared.answer.CountAnswer.{CountAnswer}
-use Rattle.rules.specs.declared.answer.CountAnswer.TheVariants as count
-use Rattle.rules.specs.declared.answer.NumberAnswer.{NumberAnswer}
-use Rattle.rules.specs.declared.answer.NumberAnswer.TheVariants as number
+use Rattle.std.specs.Prelude.{Result, Ok, Err}
+use Rattle.rules.specs.Answers.{answer, refusal_named}
+use Rattle.rules.specs.declared.refusal.Refusal.{Refusal}
 use Rattle.rules.proofs.Logic.{decide}
 use Rattle.rules.proofs.Refusals.{first-none}
 use Rattle.lent.specs.Lists.{fits, laid, list_refusal, list_out, counted}
@@ -35,22 +33,22 @@ use Rattle.stored.proofs.front.tagged_view.Reads as tagged-view
 -- ---- what is claimed
 
 -- a call gave a count n, and the first n bytes of its buffer after it are these; a call gave some answer
-abbrev pub Gave : {S : Type 0} → (CountAnswer → S → Type 0) → (S → MutBor (List ℕ)) → ℕ → List ℕ → Type 0
-Gave {S} post lent n front = (after : S) × post (count.Is n) after × (front ≡ take n (lent after).now)
+abbrev pub Gave : {S : Type 0} → (Result ℕ Refusal → S → Type 0) → (S → MutBor (List ℕ)) → ℕ → List ℕ → Type 0
+Gave {S} post lent n front = (after : S) × post (Ok n) after × (front ≡ take n (lent after).now)
 
 abbrev pub Answered : {R S : Type 0} → (R → S → Type 0) → R → Type 0
 Answered {S = S} post r = (after : S) × post r after
 
 -- Where one call gave a count, and the next is handed the bytes that it left, the next gives the list a, and refuses only 13.
-abbrev pub GoesThrough : {S S' : Type 0} → (CountAnswer → S → Type 0) → (S → MutBor (List ℕ)) → List ℕ → (CountAnswer → S' → Type 0)
+abbrev pub GoesThrough : {S S' : Type 0} → (Result ℕ Refusal → S → Type 0) → (S → MutBor (List ℕ)) → List ℕ → (Result ℕ Refusal → S' → Type 0)
     → (S' → MutBor (List ℕ)) → List ℕ → List ℕ → Type 0
 GoesThrough {S' = S'} one lent handed next lent' out a =
-    (n : ℕ) (r : CountAnswer) (after : S') → Gave one lent n handed → next r after
+    (n : ℕ) (r : Result ℕ Refusal) (after : S') → Gave one lent n handed → next r after
     → (r ≡ counted 1 0 out a) × ((lent' after).now ≡ list_out 0 out a)
 
 -- ---- a list that was given back: nothing was refused, and it stands in front
 
-none : (told : ℕ) (out a : List ℕ) {n : ℕ} {out' : List ℕ} → list_refusal told out a ≡ 0 → count.Is n ≡ count.Is (length a / 1)
+none : (told : ℕ) (out a : List ℕ) {n : ℕ} {out' : List ℕ} → list_refusal told out a ≡ 0 → ◌≡◌ {A = Result ℕ Refusal} (Ok n) (Ok (length a / 1))
     → out' ≡ laid out a → (told ≡ 0) × (take n out' ≡ a)
 unfolding list_refusal laid
 none told out a {n} {out'} e is o =
@@ -60,19 +58,18 @@ none told out a {n} {out'} e is o =
     )
 
 given_back : (told : ℕ) (out a : List ℕ) {n : ℕ} {out' : List ℕ}
-    → (count.Is n ≡ counted 1 told out a) × (out' ≡ list_out told out a) → (told ≡ 0) × (take n out' ≡ a)
-unfolding counted count_answer list_out
+    → (Ok n ≡ counted 1 told out a) × (out' ≡ list_out told out a) → (told ≡ 0) × (take n out' ≡ a)
+unfolding counted answer list_out
 given_back told out a {n} {out'} h = go (decide (eqb (list_refusal told out a) 0))
   where
     go : (eqb (list_refusal told out a) 0 ≡ true) ⊎ (eqb (list_refusal told out a) 0 ≡ false) → (told ≡ 0) × (take n out' ≡ a)
     go (inl t) = none told out a (eqb-true (list_refusal told out a) 0 t) (rw t at h.0) (rw t at h.1)
     go (inr t) =
-        let e : count.Is n ≡ count.Refused (list_refusal told out a) = rw t at h.0 in
-        let z : ◌≡◌ {A = ℕ} 0 1 = cc in
-        absurd (omega arith)
+        let e : Ok n ≡ Err (refusal_named (list_refusal told out a)) = rw t at h.0 in
+        cc
 
 -- .. and the next call, handed what is a record or moves that it does not refuse, and whose list is a
-through : {told : ℕ} {a list : List ℕ} (out : List ℕ) {r : CountAnswer} {out' : List ℕ} → told ≡ 0 → a ≡ list
+through : {told : ℕ} {a list : List ℕ} (out : List ℕ) {r : Result ℕ Refusal} {out' : List ℕ} → told ≡ 0 → a ≡ list
     → (r ≡ counted 1 told out a) × (out' ≡ list_out told out a) → (r ≡ counted 1 0 out list) × (out' ≡ list_out 0 out list)
 through out e l h = (
   h.0 ∙ ap₂ (λ (n : ℕ) (x : List ℕ). counted 1 n out x) e l,
@@ -82,7 +79,7 @@ through out e l h = (
 -- ---- two calls
 
 -- what is handed over is the record of moves that are not refused: they are taken back
-taken_back : (moves bytes out : List ℕ) {r : CountAnswer} {out' : List ℕ} → moves_refusal moves ≡ 0 → bytes ≡ record_of 0 moves
+taken_back : (moves bytes out : List ℕ) {r : Result ℕ Refusal} {out' : List ℕ} → moves_refusal moves ≡ 0 → bytes ≡ record_of 0 moves
     → (r ≡ counted 1 (back_refusal bytes) out (stored_moves bytes)) × (out' ≡ list_out (back_refusal bytes) out (stored_moves bytes))
     → (r ≡ counted 1 0 out moves) × (out' ≡ list_out 0 out moves)
 taken_back moves bytes out told is next =
@@ -133,12 +130,12 @@ module _ (κs κs' : Lfts 2) (out out' : MutBor (List ℕ)) where
       through out'.now (tagged-old moves.now ∙ free) back next
 
 -- What the general writer writes has the view that it was handed.
-pub written-view-called : (κs : Lfts 2) (κ : Lfts 1) (moves bytes : Bor (List ℕ)) (out : MutBor (List ℕ)) (view n : ℕ) (r : NumberAnswer)
+pub written-view-called : (κs : Lfts 2) (κ : Lfts 1) (moves bytes : Bor (List ℕ)) (out : MutBor (List ℕ)) (view n : ℕ) (r : Result ℕ Refusal)
     → Gave (to-tagged.Post κs (moves, (view, (out, tt)))) (λ s. s.1.1.0) n bytes.now
-    → Answered (tagged-view.Post κ (bytes, tt)) r → r ≡ number.Is view
-unfolding number_answer
+    → Answered (tagged-view.Post κ (bytes, tt)) r → r ≡ Ok view
+unfolding answer
 written-view-called κs κ moves bytes out view n r (s, one, handed) (s', next) =
     let (told, front) = given_back (tagged_refusal view moves.now) out.now (record_of view moves.now) one in
     let is = handed ∙ front in
     let (free, same, _) = written_read view moves.now told in
-    next ∙ rw (ap record_refusal is ∙ free) (ap number.Is (ap stored_view is ∙ same))
+    next ∙ rw (ap record_refusal is ∙ free) (ap Ok (ap stored_view is ∙ same))

@@ -1,8 +1,7 @@
 -- Fields: one that is written is read back, whatever stands behind it; bytes with a field in front are that field and what is behind it.
 -- Assumes nothing.
 use mathlib.Core.Path.{◌≡◌, refl, ap, ◌∙◌}
-use mathlib.Core.Bool.{true}
-use mathlib.Core.List.{List, [], ◌∷◌, ◌++◌}
+use mathlib.Core.List.{List, [], ◌∷◌, ◌++◌, append_assoc}
 use Prim.Native.Nat.{ℕ, ◌+◌, ◌*◌, ◌/◌, ◌%◌, ◌≤◌, ◌<◌}
 use native.Mathlib.Omega.{arith}
 use lib.Dec.{T, eqb, leb, eqb→eq, leb→le, le→leb}
@@ -10,8 +9,8 @@ use lib.ListN.{length, get_or, take, drop, length-append, length-drop, take-appe
 use lib.Seq.{take_at, drop_at, length-take-le}
 use borrow.Author.Tests.{eq-eqb}
 use Rattle.rules.proofs.Logic.{true-T, and_left, and_right, and_intro}
-use Rattle.lent.specs.Lists.{kept_to, kept_in, Wrote}
-use Rattle.lent.proofs.Laws.{wrote_none, wrote-all, wrote-keep, wrote-same}
+use Rattle.lent.specs.Lists.{kept}
+use Rattle.lent.proofs.Laws.{kept_lem}
 use Rattle.stored.specs.Fields.{field, field_length, field_value, behind_field, has_field}
 
 -- ---- a field that is written, and what stands behind it
@@ -79,18 +78,13 @@ whole tag (a ∷ b ∷ c ∷ s) low e room =
 pub field-whole : (tag : ℕ) (s : List ℕ) → get_or s 2 0 < 256 → T (has_field tag s) → field tag (field_value s) ++ behind_field s ≡ s
 field-whole tag s low t = whole tag s low (has-tag tag s t) (has_room tag s t)
 
--- ---- a field that is kept in a buffer, its front first
+-- ---- a field that is put at the end of a list, its front first
 
-pub field-kept : (tag : ℕ) (value : List ℕ) {buf : List ℕ} {n : ℕ} {buf' : List ℕ} {m : ℕ} {buf'' : List ℕ} {r : ℕ}
-    → n + (3 + length value) ≤ length buf
-    → (m ≡ kept_to buf n true (tag ∷ (length value / 256) ∷ (length value % 256) ∷ []))
-    × (buf' ≡ kept_in buf n true (tag ∷ (length value / 256) ∷ (length value % 256) ∷ []))
-    → (r ≡ kept_to buf' m true value) × (buf'' ≡ kept_in buf' m true value) → Wrote buf n (field tag value) buf'' r
+pub field_kept : (tag : ℕ) (value : List ℕ) (n : ℕ) (l : List ℕ) {mid new : List ℕ} → length l + (3 + length value) ≤ n
+    → mid ≡ kept n l (tag ∷ (length value / 256) ∷ (length value % 256) ∷ []) → new ≡ kept n mid value → new ≡ l ++ field tag value
 unfolding field
-field-kept tag value {buf} {n} {buf'} {m} {buf''} {r} room first-kept then-kept =
+field_kept tag value n l {mid} {new} room first-kept then-kept =
     let front : List ℕ = tag ∷ (length value / 256) ∷ (length value % 256) ∷ [] in
-    let x : Wrote buf n front buf' m = wrote-keep buf n [] buf n true front m buf' (wrote_none buf n) (omega arith) first-kept in
-    let same = wrote-same x in
-    let place = x.place in
-    let y : Wrote buf' m value buf'' r = wrote-keep buf' m [] buf' m true value r buf'' (wrote_none buf' m) (omega arith) then-kept in
-    wrote-all buf n front value buf' buf'' m r x y
+    let e : mid ≡ l ++ front = first-kept ∙ kept_lem n l front (omega arith) in
+    let long : length mid ≡ length l + 3 = ap length e ∙ length-append l front in
+    then-kept ∙ kept_lem n mid value (omega (arith, long)) ∙ ap (λ (x : List ℕ). x ++ value) e ∙ append_assoc l front value

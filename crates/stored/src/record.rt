@@ -1,30 +1,24 @@
 // A record: the field of the view, then the field of the moves. Written whole, and taken apart.
 ghost use Rattle.std.specs.Prelude.{◌≡◌, ◌≤◌, length};
-ghost use Rattle.lent.specs.Lists.{Held};
 ghost use Rattle.stored.specs.Records.{record_of, stored_view, stored_moves};
 
-use super::field::{behind_field, field_value, keep_field};
+use super::field::{MOVES, VIEW, behind_field, field_value, keep_field};
 use cells::value_at;
+use lent::Kept;
 
-// The bytes of a record, seven more than it has moves, and how many they are.
-#[derive(Clone, Copy)]
-pub(crate) struct RecordBytes {
-    pub(crate) bytes: [u8; 232],
-    pub(crate) len: usize,
-}
-
-// The record of moves in a view.
-pub(crate) fn record_of(moves: &[u8], view: u8) -> RecordBytes
+// The record of moves in a view: seven bytes more than there are moves.
+pub(crate) fn record_of(moves: &[u8], view: u8) -> Kept<232>
     requires { length moves.now ≤ 225 }
-    ensures { Held 232 (record_of view moves.now) result.bytes result.len }
+    ensures { result ≡ record_of view moves.now }
 {
-    let mut bytes = [0u8; 232];
-    let n = keep_field(&mut bytes, 0, 1, &[view]);
-    let len = keep_field(&mut bytes, n, 2, moves);
-    RecordBytes { bytes, len }
+    let mut made = Kept::<232>::new();
+    keep_field(&mut made, VIEW, &[view]);
+    keep_field(&mut made, MOVES, moves);
+    made
 }
 
 // The view in a record; in bytes that are none, what stands at its place.
+#[tactic(auto, unfolding(crate::specs::Records::stored_view))]
 pub(crate) fn stored_view(bytes: &[u8]) -> u8
     ensures { result ≡ stored_view bytes.now }
 {
@@ -32,6 +26,7 @@ pub(crate) fn stored_view(bytes: &[u8]) -> u8
 }
 
 // The moves in a record; in bytes that are none, what stands at their place.
+#[tactic(auto, unfolding(crate::specs::Records::stored_moves))]
 pub(crate) fn stored_moves(bytes: &[u8]) -> &[u8]
     ensures { result.now ≡ stored_moves bytes.now }
 {

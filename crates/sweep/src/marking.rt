@@ -1,5 +1,5 @@
 // Marks of points, and the marks k steps along a direction: 0 vertical, 1 horizontal, 2 ascending, 3 descending.
-ghost use Rattle.std.specs.Prelude.{◌≡◌, ◌&&◌, ◌||◌, ◌+◌, ◌*◌, ◌≤◌, ◌<◌, eqb, get_or, length};
+ghost use Rattle.std.specs.Prelude.{◌≡◌, ◌&&◌, ◌+◌, ◌*◌, ◌≤◌, ◌<◌, eqb, get_or, length};
 ghost use Rattle.rules.specs.Tools.{any_below};
 ghost use Rattle.rules.specs.Bit.{bit, mask_of};
 ghost use Rattle.rules.specs.Point.{x_of, y_of, by_direction};
@@ -19,19 +19,10 @@ pub fn marked_columns(marks: &[u16; 26]) -> u16
     ensures { result ≡ mask_of 16 (λ x. any_below 26 (λ i. bit (get_or marks.now i 0) x)) }
 {
     let mut columns = 0u16;
-    let mut i = 0usize;
-    while i < 26 {
-        columns = either(marks[i], columns);
-        i += 1;
+    for &mask in marks {
+        columns |= mask;
     }
     columns
-}
-
-// The bits of either mask.
-fn either(a: u16, b: u16) -> u16
-    ensures { result ≡ mask_of 16 (λ x. bit a x || bit b x) }
-{
-    a | b
 }
 
 // The points whose cell has a value.
@@ -40,10 +31,8 @@ pub(crate) fn marks_of(cells: &[u8], value: u8) -> [u16; 26]
     ensures { result ≡ marks (has_value cells.now value) }
 {
     let mut marks = [0u16; 26];
-    let mut x = 0u8;
-    while x < 15 {
+    for x in 0..15u8 {
         mark_column(&mut marks, cells, value, x);
-        x += 1;
     }
     marks
 }
@@ -54,10 +43,8 @@ fn mark_column(m: &mut [u16; 26], cells: &[u8], value: u8, x: u8)
     ensures { m.new ≡ marks (codes_below (15 * x + 15) (has_value cells.now value)) }
 {
     let first = 15 * (x as usize);
-    let mut y = 0usize;
-    while y < 15 {
-        m[y + 5] = m[y + 5] | mark(cells[first + y] == value, x);
-        y += 1;
+    for y in 0..15usize {
+        m[y + 5] |= mark(cells[first + y] == value, x);
     }
 }
 
@@ -74,11 +61,7 @@ pub(crate) fn whole() -> [u16; 26]
     ensures { result ≡ marks every_point }
 {
     let mut marks = [0u16; 26];
-    let mut i = 5usize;
-    while i < 20 {
-        marks[i] = 32767;
-        i += 1;
-    }
+    marks[5..20].fill(32767);
     marks
 }
 
@@ -87,10 +70,7 @@ pub(crate) fn whole() -> [u16; 26]
 fn up(d: u8, k: usize) -> usize
     ensures { result ≡ by_direction d k 0 k 0 }
 {
-    if d == 0 {
-        return k;
-    }
-    if d == 2 { k } else { 0 }
+    if d == 0 || d == 2 { k } else { 0 }
 }
 
 // .. how far down: on a descending line.

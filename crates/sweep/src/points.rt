@@ -31,13 +31,11 @@ fn sweep_board(cells: &[u8]) -> [u16; 26]
     let a = rows_along(&blacks, &whites, &all, 2);
     let d = rows_along(&blacks, &whites, &all, 3);
     let mut asked = [0u16; 26];
-    let mut i = 5usize;
-    while i < 21 {
+    for i in 5..21usize {
         let overline = some_at(&v.overs, &h.overs, &a.overs, &d.overs, i, false);
         let double_four = more_at(&v.swords, &h.swords, &a.swords, &d.swords, i, true);
         let double_two = more_at(&v.twos, &h.twos, &a.twos, &d.twos, i, false);
         asked[i] = all[i] & !(blacks[i] | whites[i]) & (overline | double_four | double_two);
-        i += 1;
     }
     asked
 }

@@ -43,11 +43,9 @@ pub(crate) fn rows_along(blacks: &[u16; 26], whites: &[u16; 26], whole: &[u16; 2
     let swords = w.threes;
     let mut twos = [0u16; 26];
     let mut overs = [0u16; 26];
-    let mut i = 5usize;
-    while i < 21 {
+    for i in 5..21usize {
         twos[i] = both(&w.twos, d, i) & !ahead(blacks, d, i, 4);
         overs[i] = both(&w.fours, d, i);
-        i += 1;
     }
     Rows {
         twos,
@@ -73,13 +71,11 @@ fn windows_in(blacks: &[u16; 26], whites: &[u16; 26], whole: &[u16; 26], d: u8) 
     let mut twos = [0u16; 26];
     let mut threes = [0u16; 26];
     let mut fours = [0u16; 26];
-    let mut i = 5usize;
-    while i < 21 {
+    for i in 5..21usize {
         let s = scores_at(blacks, whites, whole, d, i);
         twos[i] = s.two;
         threes[i] = s.three;
         fours[i] = s.four;
-        i += 1;
     }
     Windows {
         twos,

@@ -6,7 +6,7 @@ ghost use Rattle.std.specs.Prelude.{◌≡◌, length};
 
 use lent::head;
 use program::{is_cut_short, is_word, read_full, refuse, say, word_count, write};
-use rules::CountAnswer;
+use rules::Refusal;
 use stored::{from_tagged, old_to_tagged};
 
 fn main(rt: HostRuntime) {
@@ -39,22 +39,21 @@ fn convert<R: Input + Print + Eprint>(rt: &R, back: bool) {
     }
     let mut out = [0u8; 232];
     match converted(back, head(&bytes, n), &mut out) {
-        CountAnswer::Is(len) => {
+        Ok(len) => {
             write(
                 rt,
                 head(&out, len as usize),
                 "tagged: standard output cannot be written\n",
             );
         }
-        CountAnswer::Refused(number) => {
-            refuse(rt, number);
-        }
+        Err(refusal) => refuse(rt, refusal),
     }
 }
 
-fn converted(back: bool, bytes: &[u8], out: &mut [u8]) -> CountAnswer {
+fn converted(back: bool, bytes: &[u8], out: &mut [u8]) -> Result<u16, Refusal> {
     if back {
-        return from_tagged(bytes, out);
+        from_tagged(bytes, out)
+    } else {
+        old_to_tagged(bytes, out)
     }
-    old_to_tagged(bytes, out)
 }

@@ -1,107 +1,28 @@
--- Laws of a point in text and of a comma list, one item a turn. Assumes nothing.
-use mathlib.Core.Path.{◌≡◌, refl, ap, subst, sym, ◌∙◌}
-use mathlib.Core.Bool.{Bool, true, false, ◌&&◌, cond}
-use mathlib.Core.Logic.{◌⊎◌, inl, inr}
-use mathlib.Core.List.{List, [], ◌∷◌, ◌++◌}
-use Prim.Native.Nat.{ℕ, suc, ◌+◌, ◌*◌, ◌-◌, ◌≤◌, ◌<◌}
+-- Laws of a comma list, one item a turn. Assumes nothing.
+use mathlib.Core.Path.{◌≡◌, refl, ap, sym, ◌∙◌}
+use mathlib.Core.Bool.{Bool, true, false, cond}
+use mathlib.Core.List.{List, [], ◌∷◌, ◌++◌, append-nil, append_assoc}
+use Prim.Native.Nat.{ℕ, zero, suc, ◌+◌, ◌≤◌}
 use native.Mathlib.Omega.{arith}
-use lib.Dec.{ltb, leb}
-use lib.ListN.{length, get_or, take, drop, length-drop}
-use lib.Seq.{drop-drop, take-suc, take_all}
-use borrow.Author.Tests.{eq-eqb, ne_eqb, ltb-true, ltb-false, leb-true}
+use lib.Dec.{eqb}
+use lib.ListN.{length, length-append}
+use borrow.Author.Tests.{eq-eqb, ne_eqb, eqb-true, eqb-false}
+use Rattle.std.specs.Prelude.{Option, Some, None, Result, Ok, Err}
 use Rattle.rules.specs.Refusals.{first}
-use Rattle.rules.specs.Answers.{number_answer}
-use Rattle.rules.specs.declared.answer.NumberAnswer.TheVariants as number
-use Rattle.rules.proofs.Logic.{decide}
-use Rattle.rules.proofs.Refusals.{given, first-none}
-use Rattle.lent.specs.Lists.{Wrote, zeros, kept_to, kept_in}
-use Rattle.lent.specs.Slices.{find_at}
-use Rattle.lent.proofs.Laws.{wrote_as, wrote-keep, wrote-held, length-zeros}
-use Rattle.text.specs.Bytes.{comma, digit_zero, digit_nine, trim, parts, text_refusal}
-use Rattle.text.specs.Points.{digit_value, number_of, column_in, row_in, item_at, item_refusal, item_code, items_refusal, item_codes}
-use Rattle.text.specs.Points.{leading_codes, slip_number, points_refusal, leading_in, slip_in, point_text_refusal, leading_answer, list_found}
-use Rattle.text.specs.declared.point_text.Item.{Item}
+use Rattle.rules.specs.Answers.{answer, refusal_named}
+use Rattle.rules.specs.declared.refusal.Refusal.{Refusal}
+use Rattle.rules.proofs.Refusals.{first-none}
+use Rattle.lent.specs.Lists.{kept}
+use Rattle.lent.proofs.Laws.{kept_lem}
+use Rattle.cells.specs.Cells.{codes_refusal}
+use Rattle.text.specs.Bytes.{comma, trim, parts, onto_first}
+use Rattle.text.specs.Points.{item_refusal, item_code, items_refusal, item_codes}
+use Rattle.text.specs.Points.{leading_codes, slip_number, points_refusal, points_in, leading_in, slip_in, slip_at, list_found}
 use Rattle.text.specs.declared.points.Leading.{Leading}
-use Rattle.text.proofs.Places.{parts_last, parts_cut}
-use Rattle.text.proofs.Marks.{next-in, next-is, next-rest, next-none}
-
--- ---- a number behind a letter
-pub digit-small : (b : ℕ) → digit_value b ≤ 16
-unfolding digit_value
-digit-small b = go (leb b digit_nine) refl (leb digit_zero b)
-  where
-    go : (t : Bool) → leb b digit_nine ≡ t → (u : Bool) → cond (u && t) (b - digit_zero) 16 ≤ 16
-    go true e true = let h = leb-true b digit_nine e in omega arith
-    go true e false = omega arith
-    go false e true = omega arith
-    go false e false = omega arith
-
-pub number-one : (s : List ℕ) → length s ≡ 2 → number_of (drop 1 s) ≡ digit_value (get_or s 1 0)
-unfolding number_of
-number-one [] h = omega arith
-number-one (a ∷ []) h = omega arith
-number-one (a ∷ b ∷ []) h = refl
-number-one (a ∷ b ∷ e ∷ s) h = omega arith
-
-pub number-two : (s : List ℕ) → length s ≡ 3 → number_of (drop 1 s) ≡ 10 * digit_value (get_or s 1 0) + digit_value (get_or s 2 0)
-unfolding number_of
-number-two [] h = omega arith
-number-two (a ∷ []) h = omega arith
-number-two (a ∷ b ∷ []) h = omega arith
-number-two (a ∷ b ∷ e ∷ []) h = refl
-number-two (a ∷ b ∷ e ∷ f ∷ s) h = omega arith
-
-pub number-none : (s : List ℕ) → (length s ≡ 2 → ⊥) → (length s ≡ 3 → ⊥) → number_of (drop 1 s) ≡ 0
-unfolding number_of
-number-none [] p q = refl
-number-none (a ∷ []) p q = refl
-number-none (a ∷ b ∷ []) p q = absurd (p refl)
-number-none (a ∷ b ∷ e ∷ []) p q = absurd (q refl)
-number-none (a ∷ b ∷ e ∷ f ∷ s) p q = refl
-
--- ---- a point
-module _ (s : List ℕ) (r : Item) (e : r ≡ item_at (column_in s) (row_in s)) where
-  pub item-refusal : r.refused ≡ item_refusal s
-  unfolding item_at item_refusal
-  item-refusal = ap (λ (i : Item). i.refused) e
-
-  pub item-code : r.refused ≡ 0 → r.code ≡ item_code s
-  unfolding item_at item_code item_refusal
-  item-code z = ap (λ (i : Item). i.code) e ∙ rw (eq-eqb (item_refusal s) 0 (sym item-refusal ∙ z))
-
-  -- .. as it is given back, where the text may be refused
-  pub item-given : number_answer (first (text_refusal s) r.refused) r.code ≡ number_answer (point_text_refusal s) (item_code s)
-  unfolding number_answer point_text_refusal
-  item-given =
-      let f = first (text_refusal s) r.refused in
-      rw (← item-refusal) (given number.Is (number.Refused f) f r.code (item_code s)
-      (λ z. item-code (first-none (text_refusal s) r.refused z).1))
-
--- ---- the next part of a text parted by d: the rest behind place i, the place of the next d in it, and what stands before that
-module _ (d : ℕ) (t rest part : List ℕ) (i end : ℕ) (er : rest ≡ drop i t) (en : end ≡ find_at d rest) (ep : part ≡ take end rest) where
-  next : part ≡ take (find_at d rest) rest
-  next = ep ∙ ap (λ (k : ℕ). take k rest) en
-
-  pub part-last : length rest ≤ end → parts d (drop i t) ≡ part ∷ []
-  part-last h = rw (← er, parts_last d rest (omega arith), ← next)
-
-  pub part-more : end < length rest → parts d (drop i t) ≡ part ∷ parts d (drop (i + end + 1) t)
-  part-more h =
-      let z : i + suc end ≡ i + end + 1 = omega arith in
-      rw (← z, ← drop-drop (suc end) i t, ← er, parts_cut d rest (omega arith), ← next, ← en)
-
-  -- there is one at all
-  pub part-some : (others : List (List ℕ)) × (parts d (drop i t) ≡ part ∷ others)
-  part-some = go (decide (ltb end (length rest)))
-    where
-      go : (ltb end (length rest) ≡ true) ⊎ (ltb end (length rest) ≡ false)
-          → (others : List (List ℕ)) × (parts d (drop i t) ≡ part ∷ others)
-      go (inl y) = (parts d (drop (i + end + 1) t), part-more (ltb-true end (length rest) y))
-      go (inr y) = ([], part-last (ltb-false end (length rest) y))
-
-  -- and the text reaches so far
-  pub part_in : i ≤ length t → end < length rest → i + end + 1 ≤ length t
-  part_in h k = let n = ap length er in omega (arith, length-drop i t)
+use Rattle.text.specs.declared.points.Slip.{Slip}
+use Rattle.text.proofs.Told.{tells_ok, tells_err}
+use Rattle.text.proofs.Said.{points-good}
+use Rattle.text.proofs.Places.{parts-length, trim-le}
 
 -- ---- a comma list
 module _ (items others : List (List ℕ)) (item : List ℕ) (e : items ≡ item ∷ others) where
@@ -137,89 +58,94 @@ codes_all (item ∷ items) z =
     let n = first-none (item_refusal item) (items_refusal items) z in
     rw (eq-eqb (item_refusal item) 0 n.0, codes_all items n.1)
 
--- one code more, kept behind n others in a buffer of `size` bytes
-module _ (size : ℕ) (all : List ℕ) (n code : ℕ) (others : List ℕ) (e : drop n all ≡ code ∷ others) (room : n < size) where
-  pub keep-code : (buf : List ℕ) → Wrote (zeros size) 0 (take n all) buf n → (r : ℕ) (buf' : List ℕ)
-      → (r ≡ kept_to buf n true (code ∷ [])) × (buf' ≡ kept_in buf n true (code ∷ [])) → (r ≡ n + 1) × Wrote (zeros size) 0
-      (take (n + 1) all) buf' (n + 1)
-  keep-code buf h r buf' k =
-      let p = h.place in
-      let z : n + 1 ≡ suc n = omega arith in
-      let w = wrote-keep (zeros size) 0 (take n all) buf n true (code ∷ []) r buf' h (omega (arith, length-zeros size)) k in
-      let c = take-suc all n 0 (next-in 0 all n code others e) in
-      let y : take n all ++ (code ∷ []) ≡ take (n + 1) all = rw (z, c, next-is 0 all n code others e) in
-      let v = wrote_as w y in
-      let q : r ≡ n + 1 = omega (arith, w.place, lib.ListN.length-append (take n all) (code ∷ [])) in
-      (q, subst (λ (m : ℕ). Wrote (zeros size) 0 (take (n + 1) all) buf' m) q v)
+-- ---- the loop over the items: the codes that are kept, and the items that are left
+pub record Reading (s codes : List ℕ) (left : List (List ℕ)) : Type 0 where
+  pub codes_are : leading_codes (parts comma (trim s)) ≡ codes ++ leading_codes left
+  pub refusal : items_refusal (parts comma (trim s)) ≡ items_refusal left
+  pub room : length codes + length left ≤ 4097
 
--- the state of the loop: n codes are kept, and the text from i on has the other items
-abbrev pub Reading : List ℕ → List ℕ → ℕ → ℕ → Type 0
-Reading t codes n i =
-    (i ≤ length t) × (n ≤ i) × (length t ≤ 4096) × (items_refusal (parts comma t) ≡ items_refusal (parts comma (drop i t)))
-    × (drop n (leading_codes (parts comma t)) ≡ leading_codes (parts comma (drop i t)))
-    × Wrote (zeros 4097) 0 (take n (leading_codes (parts comma t))) codes n
+pub reading-none : (s t : List ℕ) → length s ≤ 4096 → t ≡ trim s → Reading s [] (parts comma t)
+reading-none s t h e =
+    rw e (record {
+      codes_are = refl;
+      refusal = refl;
+      room = omega (arith, parts-length comma (trim s), trim-le s);
+    })
 
--- after a turn, which kept one code more: the other items are still to be read, and none where that was the last
-pub record Turned (t : List ℕ) (others : List (List ℕ)) (n r : ℕ) (codes : List ℕ) : Type 0 where
-  pub refusal : items_refusal (parts comma t) ≡ items_refusal others
-  pub next : r ≡ n + 1
-  pub rest : drop r (leading_codes (parts comma t)) ≡ leading_codes others
-  pub wrote : Wrote (zeros 4097) 0 (take r (leading_codes (parts comma t))) codes r
+module _ (s codes : List ℕ) (left : List (List ℕ)) (h : Reading s codes left) where
+  -- where none are left all are read
+  pub reading-end : left ≡ [] → ◌≡◌ {A = Leading} (record { codes = codes; slip = None }) (list_found s)
+  unfolding list_found leading_in leading_codes slip_at points_refusal items_refusal
+  reading-end e =
+      let a : leading_codes (parts comma (trim s)) ≡ codes
+      = h.codes_are ∙ ap (λ (l : List (List ℕ)). codes ++ leading_codes l) e ∙ append-nil codes in
+      let b : items_refusal (parts comma (trim s)) ≡ 0 = h.refusal ∙ ap items_refusal e in
+      rw (a, b)
 
-module _ (t codes : List ℕ) (n i : ℕ) (inv : Reading t codes n i) (item : List ℕ) (others : List (List ℕ))
-    (e : parts comma (drop i t) ≡ item ∷ others) (found : Item) (ef : found ≡ item_at (column_in item) (row_in item))
-    (good : found.refused ≡ 0) (r : ℕ)
-    (codes' : List ℕ) (kept : (r ≡ kept_to codes n true (found.code ∷ [])) × (codes' ≡ kept_in codes n true (found.code ∷ []))) where
-  abbrev all : List ℕ
-  all = leading_codes (parts comma t)
+  module _ (item : List ℕ) (others : List (List ℕ)) (e : left ≡ item ∷ others) where
+    -- an item is read
+    pub reading-more : item_refusal item ≡ 0 → (code : ℕ) → code ≡ item_code item → (new : List ℕ) → new ≡ kept 4097 codes (code ∷ [])
+        → Reading s new others
+    reading-more z code ec new k =
+        let n = ap length e in
+        let r = h.room in
+        let put = k ∙ kept_lem 4097 codes (code ∷ []) (omega arith) in
+        record {
+          codes_are =
+              h.codes_are ∙ rw (codes-more left others item e z, ← ec) (sym (append_assoc codes (code ∷ []) (leading_codes others)) ∙ ap (λ (l : List ℕ). l ++ leading_codes others) (sym put));
+          refusal = h.refusal ∙ items_more left others item e z;
+          room = omega (arith, ap length put, length-append codes (code ∷ []));
+        }
 
-  reads : item_refusal item ≡ 0
-  reads = sym (item-refusal item found ef) ∙ good
+    -- .. or refused: it is the one behind those that are kept
+    pub reading-slip : (item_refusal item ≡ 0 → ⊥) → (refused : Refusal) → refused ≡ refusal_named (item_refusal item)
+        → ◌≡◌ {A = Leading} (record { codes = codes; slip = Some (record { item = length codes + 1; refusal = refused }) }) (list_found s)
+    unfolding list_found leading_in slip_at slip_in slip_number points_refusal
+    reading-slip n refused er =
+        let a : leading_codes (parts comma (trim s)) ≡ codes = h.codes_are ∙ ap (λ (l : List ℕ). codes ++ l) (codes-none left others item e n) ∙ append-nil codes in
+        let b : items_refusal (parts comma (trim s)) ≡ item_refusal item = h.refusal ∙ items_refused left others item e n in
+        rw (a, b, ne_eqb (item_refusal item) 0 n, er)
 
-  rest : drop n all ≡ found.code ∷ leading_codes others
-  rest =
-      inv.4 ∙ codes-more (parts comma (drop i t)) others item e reads
-      ∙ ap (λ (k : ℕ). k ∷ leading_codes others) (sym (item-code item found ef good))
+-- ---- what a list says: all its codes, where none is refused
+module _ (s : List ℕ) (r : Leading) (h : r ≡ list_found s) where
+  found-slip : r.slip ≡ slip_at (points_refusal s) (slip_in s)
+  unfolding list_found
+  found-slip = ap (λ (l : Leading). l.slip) h
 
-  kept-code : (r ≡ n + 1) × Wrote (zeros 4097) 0 (take (n + 1) all) codes' (n + 1)
-  kept-code = keep-code 4097 all n found.code (leading_codes others) rest (omega (arith, inv.0, inv.1, inv.2)) codes inv.5 r codes' kept
+  slip-none : r.slip ≡ None → points_refusal s ≡ 0
+  unfolding slip_at
+  slip-none e = none (points_refusal s) (slip_in s) (sym found-slip ∙ e)
+    where
+      none : (n i : ℕ) → slip_at n i ≡ None → n ≡ 0
+      none n i e = go (eqb n 0) refl e
+        where
+          go : (t : Bool) → eqb n 0 ≡ t → cond {A = Option Slip} t None (Some (record { item = i; refusal = refusal_named n })) ≡ None → n ≡ 0
+          go true z p = eqb-true n 0 z
+          go false z p = absurd cc
 
-  pub turned : Turned t others n r codes'
-  turned =
-      record {
-        refusal = inv.3 ∙ items_more (parts comma (drop i t)) others item e reads;
-        next = kept-code.0;
-        rest = ap (λ (k : ℕ). drop k all) kept-code.0 ∙ next-rest 0 all n found.code (leading_codes others) rest;
-        wrote = subst (λ (k : ℕ). Wrote (zeros 4097) 0 (take k all) codes' k) (sym kept-code.0) kept-code.1;
-      }
+  codes-are : r.slip ≡ None → r.codes ≡ points_in s
+  unfolding list_found leading_in points_in points_refusal
+  codes-are e = ap (λ (l : Leading). l.codes) h ∙ codes_all (parts comma (trim s)) (slip-none e)
 
--- ---- what is given back: the codes are written where no others are left, behind the last item or before a refused one
-module _ (s t : List ℕ) (e : t ≡ trim s) (codes : List ℕ) (n : ℕ) (left : drop n (leading_codes (parts comma t)) ≡ [])
-    (w : Wrote (zeros 4097) 0 (take n (leading_codes (parts comma t))) codes n) (room : n ≤ 4097) where
-  all-kept : take n (leading_codes (parts comma t)) ≡ leading_in s
-  unfolding leading_in
-  all-kept =
-      take_all n (leading_codes (parts comma t)) (next-none 0 (leading_codes (parts comma t)) n left)
-      ∙ ap (λ (l : List ℕ). leading_codes (parts comma l)) e
+  pub codes-said : r.slip ≡ None → ◌≡◌ {A = Result (List ℕ) Refusal} (Ok r.codes) (answer (points_refusal s) (points_in s))
+  codes-said e = rw (codes-are e) (tells_ok (points_refusal s) (points_in s) (slip-none e))
 
-  wrote : Wrote (zeros 4097) 0 (leading_in s) codes n
-  wrote = wrote_as w all-kept
+  pub codes-good : r.slip ≡ None → codes_refusal r.codes ≡ 0
+  codes-good e = ap codes_refusal (codes-are e) ∙ points-good s (slip-none e)
 
-  pub list-found : (refused item : ℕ) → refused ≡ points_refusal s → item ≡ slip_in s
-      → ◌≡◌ {A = Leading} (record { refused = refused; item = item; codes = codes; len = n }) (list_found s)
-  unfolding list_found leading_answer
-  list-found refused item er ei =
-      let p = wrote.place in
-      let h = wrote-held 4097 (leading_in s) codes n wrote (omega arith) in
-      rw (er, ei, h.buffer, h.count)
-
-  -- the number of the refused item is one more than the codes that are kept
-  pub slip-at : (refused : ℕ) → refused ≡ points_refusal s → (refused ≡ 0 → ⊥) → n + 1 ≡ slip_in s
-  unfolding slip_in slip_number points_refusal leading_in
-  slip-at refused er z =
-      let p = wrote.place in
-      rw (ne_eqb (points_refusal s) 0 (λ y. z (er ∙ y))) (omega arith)
-
-pub slip-none : (s : List ℕ) → points_refusal s ≡ 0 → 0 ≡ slip_in s
-unfolding slip_in slip_number points_refusal
-slip-none s z = rw (eq-eqb (points_refusal s) 0 z)
+  pub codes-refused : (slip : Slip) → r.slip ≡ Some slip
+      → ◌≡◌ {A = Result (List ℕ) Refusal} (Err slip.refusal) (answer (points_refusal s) (points_in s))
+  unfolding slip_at
+  codes-refused slip e =
+      let z = some (points_refusal s) (slip_in s) (sym found-slip ∙ e) in
+      rw z.1 (tells_err (points_refusal s) (points_in s) z.0)
+    where
+      some : (n i : ℕ) → slip_at n i ≡ Some slip → (n ≡ 0 → ⊥) × (slip.refusal ≡ refusal_named n)
+      some n i e = go (eqb n 0) refl e
+        where
+          go : (t : Bool) → eqb n 0 ≡ t → cond {A = Option Slip} t None (Some (record { item = i; refusal = refusal_named n })) ≡ Some slip
+              → (n ≡ 0 → ⊥) × (slip.refusal ≡ refusal_named n)
+          go true z p = absurd cc
+          go false z p =
+              let q : ◌≡◌ {A = Slip} (record { item = i; refusal = refusal_named n }) slip = cc in
+              (eqb-false n 0 z, ap (λ (w : Slip). w.refusal) (sym q))

@@ -1,7 +1,11 @@
 -- The laws behind `text`, for other crates to cite.
+-- what an answer says where it is given, and where it is refused
+pub mod Told
 -- a text trimmed, a byte in it, the parts between a byte
 pub mod Places
--- a line in text, one byte a turn
+-- the cells of a line, one byte a turn
+pub mod Dense
+-- a line in text: the masks of its first cells
 pub mod Marks
 -- a point in text, and a comma list, one item a turn
 pub mod Items

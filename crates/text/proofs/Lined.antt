@@ -8,21 +8,24 @@ use native.Mathlib.Omega.{arith}
 use lib.Dec.{T, leb, ltb, eqb, le→leb, eqb→eq}
 use lib.ListN.{length, get_or, drop, set, length-set, length-drop, get_or-eq_default}
 use lib.Seq.{get_or-set_same, get_or-set_other}
-use borrow.Author.Tests.{eq-eqb, ne_eqb, eqb-true, eqb-false, lt-ltb, le-ltb, ltb-true, ltb-false, lt-leb}
+use borrow.Author.Tests.{eq-eqb, eqb-true, eqb-false, lt-ltb, le-ltb, ltb-true, ltb-false, lt-leb}
 use Rattle.rules.specs.Refusals.{first, unless}
 use Rattle.rules.specs.Tools.{all_below, tab}
 use Rattle.rules.specs.Point.{x_of, y_of, code_of}
 use Rattle.rules.proofs.Logic.{all_more, all-step, all-fails, and-flip, T_true, decide}
 use Rattle.rules.proofs.Lists.{length-tab, get_d-tab, tab-cong, is-tab}
-use Rattle.rules.proofs.Refusals.{passed, given, first-none}
+use Rattle.std.specs.Prelude.{Result, Ok, Err}
+use Rattle.rules.specs.Answers.{answer, checked}
+use Rattle.rules.specs.declared.refusal.Refusal.{Refusal}
+use Rattle.rules.specs.declared.refusal.Refusal.TheVariants.{OverLength}
+use Rattle.rules.proofs.Refusals.{passed, first-none}
 use Rattle.lent.specs.Lists.{zeros}
 use Rattle.lent.proofs.Laws.{length-zeros, zeros-at}
-use Rattle.cells.specs.Answers.{cells_answer}
-use Rattle.cells.specs.declared.answer.CellsAnswer.{CellsAnswer}
 use Rattle.text.specs.Bytes.{dense}
 use Rattle.text.specs.Rows.{letter_put, row_put}
 use Rattle.text.specs.Reading.{letter_cell, size_at, count_refusal, diagram_refusal, diagram_cells}
-use Rattle.text.proofs.Marks.{next-is, next-rest, next-none}
+use Rattle.text.proofs.Told.{told_same, told_ok, told_err, tells_ok, tells_err}
+use Rattle.text.proofs.Dense.{next-is, next-rest, next-none}
 
 -- ---- the cells of line k put, one a turn
 pub row_step : (k x : ℕ) (l line : List ℕ) (b : ℕ) (cells cells' : List ℕ) → l ≡ b ∷ line → cells' ≡ letter_put k x b cells
@@ -222,6 +225,12 @@ module _ (lines : List (List ℕ)) (k : ℕ) (part : List ℕ) (e : get_or lines
   lined-long h n =
       rw (all-fails (length lines) (λ j. leb (size_at lines j) 15) k h (lt-leb (size_at lines k) 15 (omega (arith, at))))
 
+  pub lined_long : k < length lines → 15 < size
+      → ◌≡◌ {A = Result (List ℕ) Refusal} (Err OverLength) (answer (diagram_refusal lines) (diagram_cells lines))
+  lined_long h n =
+      let e = sym (lined-long h n) in
+      tells_err 5 (diagram_cells lines) (λ z. omega arith) ∙ ap (λ (m : ℕ). answer m (diagram_cells lines)) (sym e)
+
   pub lined-more : size ≤ 15 → (cells : List ℕ) (full : Bool) → Lined lines cells full k → (cells' : List ℕ) (full' : Bool)
       → cells' ≡ row_put k 0 (dense part) cells → full' ≡ (full && eqb size 15) → Lined lines cells' full' (k + 1)
   lined-more fits cells full h cells' full' p q =
@@ -233,22 +242,9 @@ module _ (lines : List (List ℕ)) (k : ℕ) (part : List ℕ) (e : get_or lines
         said = p ∙ ap (row_put k 0 (dense part)) h.said ∙ shown-more lines k (dense part) (ap dense e);
       }
 
--- ---- what is given back
-
--- a refusal is given back alone
-pub refused_as : (n : ℕ) (a b : List ℕ) → (n ≡ 0 → ⊥) → cells_answer n a ≡ cells_answer n b
-unfolding cells_answer
-refused_as n a b h = rw (ne_eqb n 0 h)
-
-pub cells-given : (a b : ℕ) (c d : List ℕ) → a ≡ b → (a ≡ 0 → c ≡ d) → cells_answer a c ≡ cells_answer b d
-unfolding cells_answer
-cells-given a b c d e h =
-    given {B = CellsAnswer} (λ (l : List ℕ). record { refused = 0; cells = l }) (record { refused = a; cells = zeros 225 }) a c d h
-    ∙ ap (λ (n : ℕ). cells_answer n d) e
-
--- behind the last line
+-- ---- behind the last line
 module _ (lines : List (List ℕ)) (cells : List ℕ) (full : Bool) (k : ℕ) (h : Lined lines cells full k) (n : length lines ≡ k) where
-  end-said : count_refusal k full ≡ diagram_refusal lines
+  pub end-said : count_refusal k full ≡ diagram_refusal lines
   unfolding count_refusal diagram_refusal first unless
   end-said = rw (n, T_true {b = all_below k (λ j. leb (size_at lines j) 15)} h.fit, ← h.sizes)
 
@@ -258,5 +254,16 @@ module _ (lines : List (List ℕ)) (cells : List ℕ) (full : Bool) (k : ℕ) (h
       let f : k ≡ 15 = eqb→eq k 15 (passed (eqb k 15) 5 (first-none (unless (eqb k 15) 6) (unless full 7) z).0) in
       h.said ∙ ap (λ (j : ℕ). shown_to j lines) f ∙ shown-all lines
 
-  pub lined-done : cells_answer (count_refusal k full) cells ≡ cells_answer (diagram_refusal lines) (diagram_cells lines)
-  lined-done = cells-given (count_refusal k full) (diagram_refusal lines) cells (diagram_cells lines) end-said cells-said
+  pub lined-done : answer (count_refusal k full) cells ≡ answer (diagram_refusal lines) (diagram_cells lines)
+  lined-done = told_same (count_refusal k full) (diagram_refusal lines) cells (diagram_cells lines) end-said cells-said
+
+  -- the count is refused, or nothing is
+  pub lined-refused : (r : Refusal) → ◌≡◌ {A = Result Unit Refusal} (Err r) (checked (count_refusal k full))
+      → ◌≡◌ {A = Result (List ℕ) Refusal} (Err r) (answer (diagram_refusal lines) (diagram_cells lines))
+  lined-refused r e =
+      let t = told_err (count_refusal k full) tt r e in
+      rw t.1 (tells_err (count_refusal k full) cells t.0 ∙ lined-done)
+
+  pub lined-ok : ◌≡◌ {A = Result Unit Refusal} (Ok tt) (checked (count_refusal k full))
+      → ◌≡◌ {A = Result (List ℕ) Refusal} (Ok cells) (answer (diagram_refusal lines) (diagram_cells lines))
+  lined-ok e = tells_ok (count_refusal k full) cells (told_ok (count_refusal k full) tt tt e).0 ∙ lined-done

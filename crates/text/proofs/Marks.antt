@@ -1,55 +1,26 @@
--- Laws of a line in text, as the code reads it: one byte a turn. Assumes nothing.
-use mathlib.Core.Path.{◌≡◌, refl, ap, sym, ◌∙◌}
-use mathlib.Core.Bool.{Bool, true, false, ◌&&◌, cond}
+-- Laws of a line in text, as the code reads it: the masks of its first cells. Assumes nothing.
+use mathlib.Core.Path.{◌≡◌, ap, sym, ◌∙◌}
+use mathlib.Core.Bool.{true, false, ◌&&◌, cond}
 use mathlib.Core.Logic.{◌⊎◌, inl, inr}
 use mathlib.Core.List.{List, [], ◌∷◌}
 use Prim.Native.Nat.{ℕ, ◌+◌, ◌≤◌, ◌<◌}
-use native.Mathlib.Numerals.{add-one}
 use native.Mathlib.Omega.{arith}
 use lib.Dec.{eqb, ltb, leb}
-use lib.ListN.{length, get_or, drop, drop_of_length-le, length-drop, get_or-eq_default}
-use lib.Seq.{drop-cons, drop-drop, get_or-drop}
+use lib.ListN.{length, get_or, drop, get_or-eq_default}
 use borrow.Author.Tests.{eqb-true, eqb-false, lt-ltb, le-ltb, ltb-true, ltb-false, ne_eqb, le-leb, lt-leb}
+use Rattle.std.specs.Prelude.{Result, Ok, Err}
 use Rattle.rules.specs.Bit.{bit, mask_of}
-use Rattle.rules.specs.Refusals.{first, unless}
-use Rattle.rules.proofs.Logic.{decide, T_true}
-use Rattle.rules.proofs.Refusals.{given, first-none, passed}
+use Rattle.rules.specs.Refusals.{unless}
+use Rattle.rules.specs.Answers.{answer}
+use Rattle.rules.specs.declared.refusal.Refusal.{Refusal}
+use Rattle.rules.specs.declared.refusal.Refusal.TheVariants.{OverLength}
+use Rattle.rules.proofs.Logic.{decide}
 use Rattle.rules.proofs.Bits.{bit_mask, mask-cong, mask-none}
 use Rattle.masks.specs.Masks.{placed}
-use Rattle.line.specs.Answers.{line_answer}
-use Rattle.line.specs.declared.answer.LineAnswer.TheVariants as line
-use Rattle.text.specs.Bytes.{small_o, small_x, space, dense, text_refusal}
-use Rattle.text.specs.Lines.{marked, line_in, line_found, long_line, length_refusal, line_text_refusal}
-use Rattle.text.specs.declared.line_text.Found.{Found}
-
--- ---- a list without its first x items: the next item, and that there is none
-module _ {A : Type 0} (none : A) (l : List A) (x : ℕ) where
-  pub next-in : (a : A) (rest : List A) → drop x l ≡ a ∷ rest → x < length l
-  next-in a rest e = let n = ap length e in omega (arith, length-drop x l)
-
-  pub next-is : (a : A) (rest : List A) → drop x l ≡ a ∷ rest → get_or l x none ≡ a
-  next-is a rest e =
-      let z : x + 0 ≡ x = omega arith in
-      ap (λ (k : ℕ). get_or l k none) (sym z) ∙ sym (get_or-drop x l 0 none) ∙ ap (λ (m : List A). get_or m 0 none) e
-
-  pub next-rest : (a : A) (rest : List A) → drop x l ≡ a ∷ rest → drop (x + 1) l ≡ rest
-  next-rest a rest e = sym (drop-drop 1 x l) ∙ ap (drop 1) e
-
-  pub next-none : drop x l ≡ [] → length l ≤ x
-  next-none e = let n = ap length e in omega (arith, length-drop x l)
-
--- ---- the cells of a line
-pub dense-space : (s : List ℕ) (i : ℕ) → i < length s → space (get_or s i 0) ≡ true → dense (drop i s) ≡ dense (drop (i + 1) s)
-unfolding dense
-dense-space s i h e = rw (add-one, drop-cons s i 0 h, e)
-
-pub dense-cell : (s : List ℕ) (i : ℕ) → i < length s → space (get_or s i 0) ≡ false → dense (drop i s) ≡ get_or s i 0 ∷ dense (drop (i + 1) s)
-unfolding dense
-dense-cell s i h e = rw (add-one, drop-cons s i 0 h, e)
-
-pub dense-end : (s : List ℕ) (i : ℕ) → length s ≤ i → dense (drop i s) ≡ []
-unfolding dense
-dense-end s i h = rw (drop_of_length-le s h)
+use Rattle.line.specs.declared.line.Line.{Line}
+use Rattle.text.specs.Bytes.{small_o, small_x, dense}
+use Rattle.text.specs.Lines.{marked, line_in, length_refusal}
+use Rattle.text.proofs.Dense.{next-none}
 
 -- ---- the first x cells with the letter d, as a mask
 unfoldable pub marked_to : ℕ → List ℕ → ℕ → ℕ
@@ -92,13 +63,12 @@ marked_all s x d h p =
         let k = ltb-false j x u in
         rw (u, get_or-eq_default (dense s) 0 {n = j} (omega arith)) (sym (ne_eqb 0 d (λ e. omega arith)))
 
--- ---- the row that is given back
-pub row-said : (s : List ℕ) (x blacks whites : ℕ) → x ≤ 15 → x ≤ length (dense s) → [] ≡ drop x (dense s) → blacks ≡ marked_to x
-    (dense s) small_o
-    → whites ≡ marked_to x (dense s) small_x → ◌≡◌ {A = Found} (record
-    { refused = 0; line = record { blacks = blacks; whites = whites; size = x } }) (line_found s)
-unfolding line_found line_in
-row-said s x blacks whites h k e eb ew =
+-- ---- the line that is given back
+pub line-said : (s : List ℕ) (x blacks whites : ℕ) → x ≤ 15 → x ≤ length (dense s) → [] ≡ drop x (dense s)
+    → blacks ≡ marked_to x (dense s) small_o → whites ≡ marked_to x (dense s) small_x
+    → ◌≡◌ {A = Result Line Refusal} (Ok (record { blacks = blacks; whites = whites; size = x })) (answer (length_refusal s) (line_in s))
+unfolding line_in length_refusal unless answer
+line-said s x blacks whites h k e eb ew =
     let n = next-none 0 (dense s) x (sym e) in
     let z : x ≡ length (dense s) = omega arith in
     rw (
@@ -108,29 +78,7 @@ row-said s x blacks whites h k e eb ew =
       z,
     )
 
-pub row-long : (s : List ℕ) → 15 < length (dense s) → long_line ≡ line_found s
-unfolding line_found
-row-long s h = rw (lt-leb (length (dense s)) 15 h)
-
-module _ (s : List ℕ) (r : Found) (e : r ≡ line_found s) where
-  pub row-refusal : r.refused ≡ length_refusal s
-  unfolding line_found long_line length_refusal unless
-  row-refusal = ap (λ (w : Found). w.refused) e ∙ go (leb (length (dense s)) 15)
-    where
-      go : (b : Bool) → (cond b (record { refused = 0; line = line_in s }) long_line).refused ≡ cond b 0 5
-      go true = refl
-      go false = refl
-
-  pub row_line : r.refused ≡ 0 → r.line ≡ line_in s
-  unfolding line_found length_refusal
-  row_line z =
-      let fits = leb (length (dense s)) 15 in
-      ap (λ (w : Found). w.line) e ∙ rw (T_true {b = fits} (passed fits 4 (sym row-refusal ∙ z)))
-
-  -- .. as it is given back, where the text may be refused
-  pub row-given : line_answer (first (text_refusal s) r.refused) r.line ≡ line_answer (line_text_refusal s) (line_in s)
-  unfolding line_answer line_text_refusal
-  row-given =
-      let f = first (text_refusal s) r.refused in
-      rw (← row-refusal)
-      (given line.Is (line.Refused f) f r.line (line_in s) (λ z. row_line (first-none (text_refusal s) r.refused z).1))
+pub line-long : (s : List ℕ) → 15 < length (dense s)
+    → ◌≡◌ {A = Result Line Refusal} (Err OverLength) (answer (length_refusal s) (line_in s))
+unfolding length_refusal unless answer
+line-long s h = rw (lt-leb (length (dense s)) 15 h)

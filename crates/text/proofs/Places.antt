@@ -14,6 +14,17 @@ use Rattle.rules.proofs.Logic.{decide, no_true}
 use Rattle.lent.specs.Slices.{first_at, find_at}
 use Rattle.text.specs.Bytes.{space, trim_start, trim_end, keep_end, trim, has, before, behind, parts, onto_first}
 use Rattle.text.specs.Bytes.{leading}
+use Rattle.std.specs.Option.{option_map_or, unwrap_or}
+use Rattle.std.proofs.Common.{Option, Some, None, Bor}
+
+-- ---- what is left of a text, in parts
+abbrev pub left_in : ℕ → Option (Bor (List ℕ)) → List (List ℕ)
+left_in d rest = option_map_or (λ t. parts d t.now) rest []
+
+-- what stands behind a byte, or nothing
+pub behind_or : (rest : Option (Bor (List ℕ))) (none : Bor (List ℕ)) → none.now ≡ [] → (unwrap_or rest none).now ≡ option_map_or (λ t. t.now) rest []
+behind_or None none e = e
+behind_or (Some t) none e = refl
 
 -- ---- trimming
 pub trim_start_lem : (s : List ℕ) → trim_start s ≡ drop (leading s) s
@@ -119,6 +130,9 @@ behind-drop d (b ∷ s) = go (eqb b d) (behind-drop d s)
     go true r = refl
     go false r = r
 
+pub behind-le : (d : ℕ) (s : List ℕ) → length (behind d s) ≤ length s
+behind-le d s = rw (behind-drop d s) (omega (arith, length-drop (suc (find_at d s)) s))
+
 -- a text without the byte is one part
 pub parts_whole : (d : ℕ) (l : List ℕ) → has d l ≡ false → parts d l ≡ l ∷ []
 unfolding has parts onto_first
@@ -129,6 +143,17 @@ parts_whole d (b ∷ l) h = go (eqb b d) (parts_whole d l) h
         → cond t ([] ∷ parts d l) (onto_first b (parts d l)) ≡ (b ∷ l) ∷ []
     go true r e = absurd (no_true (sym e))
     go false r e = rw (r e)
+
+-- there is one part more than there are bytes at most
+pub parts-length : (d : ℕ) (l : List ℕ) → length (parts d l) ≤ length l + 1
+unfolding parts onto_first
+parts-length d [] = omega arith
+parts-length d (b ∷ l) = go (eqb b d) (parts d l) (parts-length d l)
+  where
+    go : (t : Bool) (ps : List (List ℕ)) → length ps ≤ length l + 1 → length (cond t ([] ∷ ps) (onto_first b ps)) ≤ suc (length l) + 1
+    go true ps h = omega arith
+    go false [] h = omega arith
+    go false (p ∷ ps) h = omega arith
 
 -- the last part, and a part before another
 pub parts_last : (d : ℕ) (s : List ℕ) → length s ≤ find_at d s → parts d s ≡ take (find_at d s) s ∷ []
@@ -152,25 +177,3 @@ parts_cut d (b ∷ s) h = go (eqb b d) (parts_cut d s) h
         ≡ take (cond t 0 (suc (find_at d s))) (b ∷ s) ∷ parts d (drop (suc (cond t 0 (suc (find_at d s)))) (b ∷ s))
     go true r h = refl
     go false r h = rw (r (le_of_suc-le-suc h))
-
--- ---- what stands before and behind the first d, as the code finds it
-pub take-le : (n : ℕ) (s : List ℕ) → length (take n s) ≤ length s
-take-le n s = omega (arith, length-take n s)
-
-pub drop_le : (n : ℕ) (s : List ℕ) → length (drop n s) ≤ length s
-drop_le n s = omega (arith, length-drop n s)
-
-part-before : (d n : ℕ) (s part : List ℕ) → n ≡ find_at d s → part ≡ take n s → part ≡ before d s
-part-before d n s part e p = p ∙ ap (λ (k : ℕ). take k s) e ∙ sym (before-take d s)
-
-part-behind : (d n : ℕ) (s from rest : List ℕ) → n ≡ find_at d s → from ≡ drop n s → rest ≡ drop 1 from → rest ≡ behind d s
-part-behind d n s from rest e p q =
-    let z : find_at d s + 1 ≡ suc (find_at d s) = omega arith in
-    q ∙ ap (drop 1) (p ∙ ap (λ (k : ℕ). drop k s) e) ∙ drop-drop 1 (find_at d s) s ∙ ap (λ (k : ℕ). drop k s) z ∙ sym (behind-drop d s)
-
--- what stands before the first d, and before the next one; and what stands behind the first
-pub two-lists : (d n m : ℕ) (s part from rest other : List ℕ) → n ≡ find_at d s → part ≡ take n s → from ≡ drop n s → rest ≡ drop 1 from
-    → m ≡ find_at d rest → other ≡ take m rest → (part ≡ before d s) × (other ≡ before d (behind d s)) × (rest ≡ behind d s)
-two-lists d n m s part from rest other en ep ef er em eo =
-    let e = part-behind d n s from rest en ef er in
-    (part-before d n s part en ep, part-before d m rest other em eo ∙ ap (before d) e, e)

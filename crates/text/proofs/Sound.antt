@@ -1,23 +1,14 @@
--- What a text says are cells of 0, 1 and 2, so that the board given back is sound and has these cells; and cells
--- that are read, written out. Assumes nothing.
-use mathlib.Core.Path.{◌≡◌, refl, sym, ◌∙◌}
+-- What a text says are cells of 0, 1 and 2, so that the board given back is sound and has these cells. Assumes nothing.
+use mathlib.Core.Path.{◌≡◌}
 use mathlib.Core.Bool.{Bool, true, false, cond}
-use mathlib.Core.Logic.{◌⊎◌, inl, inr}
 use mathlib.Core.List.{List, []}
 use Prim.Native.Nat.{ℕ, ◌-◌, ◌≤◌}
 use native.Mathlib.Omega.{arith}
 use lib.Dec.{eqb}
-use lib.ListN.{length, get_or, take}
-use lib.Seq.{take_all}
-use borrow.Author.Tests.{eqb-true, eqb-false}
+use lib.ListN.{get_or}
 use Rattle.rules.specs.Point.{x_of, y_of}
-use Rattle.rules.proofs.Logic.{decide}
 use Rattle.rules.proofs.Lists.{length-tab, get_d-tab}
-use Rattle.lent.specs.Lists.{zeros, list_refusal, list_out}
-use Rattle.lent.proofs.Laws.{kept_out}
 use Rattle.cells.specs.Cells.{Cells}
-use Rattle.cells.specs.Answers.{cells_answer}
-use Rattle.cells.specs.declared.answer.CellsAnswer.{CellsAnswer}
 use Rattle.cells.proofs.Given.{moves-ok, stones-ok}
 use Rattle.board.specs.Boards.{board_of, board_refusal, cells}
 use Rattle.board.proofs.Given.{board-sound, board-cells}
@@ -61,24 +52,3 @@ read-sound s = board-sound (read_cells s) (read_ok s)
 
 pub read-cells : (s : List ℕ) → cells (board_of (read_cells s)) ≡ read_cells s
 read-cells s = board-cells (read_cells s) (read_ok s)
-
--- cells that are read are written out as they are; a refusal writes nothing
-module _ (answer : CellsAnswer) (refused : ℕ) (said out : List ℕ) (e : answer ≡ cells_answer refused said) (long : length said ≡ 225) where
-  pub read_out : (list_refusal answer.refused out (take 225 answer.cells) ≡ list_refusal refused out said)
-      × (list_out answer.refused out (take 225 answer.cells) ≡ list_out refused out said)
-  unfolding cells_answer
-  read_out = rw e (go (decide (eqb refused 0)))
-    where
-      go : (eqb refused 0 ≡ true) ⊎ (eqb refused 0 ≡ false)
-          → (list_refusal (cells_answer refused said).refused out (take 225 (cells_answer refused said).cells)
-          ≡ list_refusal refused out said)
-          × (list_out (cells_answer refused said).refused out (take 225 (cells_answer refused said).cells) ≡ list_out refused out said)
-      go (inl t) =
-          let z : refused ≡ 0 = eqb-true refused 0 t in
-          let all = take_all 225 said (omega arith) in
-          rw (t, all, z) (refl, refl)
-      go (inr t) =
-          let n = eqb-false refused 0 t in
-          let a = kept_out refused out (take 225 (zeros 225)) n in
-          let b = kept_out refused out said n in
-          rw t (a.0 ∙ sym b.0, sym a.1 ∙ b.1)

@@ -1,10 +1,9 @@
 -- A line in text (section 7): "spaces dropped .. o black, x white, any other byte empty".
-use Rattle.std.specs.Prelude.{cond, List, ℕ, eqb, leb, length, get_or}
+use Rattle.std.specs.Prelude.{List, ℕ, eqb, leb, length, get_or}
 use Rattle.rules.specs.Refusals.{over_length, unless, first}
 use Rattle.rules.specs.Bit.{mask_of}
 use Rattle.line.specs.declared.line.Line.{Line}
 use Rattle.text.specs.Bytes.{small_o, small_x, dense, text_refusal}
-use Rattle.text.specs.declared.line_text.Found.{Found}
 
 -- 5 for "a diagram line over 15 cells"
 unfoldable pub length_refusal : List ℕ → ℕ
@@ -21,12 +20,3 @@ line_in s = record { blacks = marked small_o s; whites = marked small_x s; size 
 -- of a text that is a line alone: first what is refused of any text
 unfoldable pub line_text_refusal : List ℕ → ℕ
 line_text_refusal s = first (text_refusal s) (length_refusal s)
-
--- ---- what the code keeps
-
--- too long a line: 5, with an empty line in the place of one
-unfoldable pub long_line : Found
-long_line = record { refused = over_length; line = record { blacks = 0; whites = 0; size = 0 } }
-
-unfoldable pub line_found : List ℕ → Found
-line_found s = cond (leb (length (dense s)) 15) (record { refused = 0; line = line_in s }) long_line

@@ -1,12 +1,13 @@
 -- A point in text, and a comma list of them (section 7, and request 5). An item of a list is the text of one point. The quoted sentences
 -- are document 01's, and 02's where it is named.
-use Rattle.std.specs.Prelude.{◌&&◌, cond, List, [], ◌∷◌, ℕ, ◌+◌, ◌*◌, ◌-◌, eqb, leb, ltb, length, get_or, drop}
+use Rattle.std.specs.Prelude.{◌&&◌, cond, List, [], ◌∷◌, ℕ, ◌+◌, ◌*◌, ◌-◌, eqb, leb, ltb, length, get_or, drop, Option, Some, None, Result}
 use Rattle.rules.specs.Refusals.{no_column, no_row, unless, first}
+use Rattle.rules.specs.Answers.{answer, refusal_named}
 use Rattle.rules.specs.Point.{code_of}
-use Rattle.lent.specs.Lists.{padded}
+use Rattle.rules.specs.declared.refusal.Refusal.{Refusal}
 use Rattle.text.specs.Bytes.{comma, digit_zero, digit_nine, capital_a, capital_o, small_a, small_o, trim, parts, text_refusal}
-use Rattle.text.specs.declared.point_text.Item.{Item}
 use Rattle.text.specs.declared.points.Leading.{Leading}
+use Rattle.text.specs.declared.points.Slip.{Slip}
 
 -- ---- a point
 
@@ -44,13 +45,9 @@ item_refusal s = place_refusal (column_in s) (row_in s)
 unfoldable pub item_code : List ℕ → ℕ
 item_code s = code_of (column_in s) (row_in s - 1)
 
--- the refusal and 0
-unfoldable pub refused_item : ℕ → Item
-refused_item n = record { refused = n; code = 0 }
-
--- the point of a column and a row, or the refusal with 0 in its place
-unfoldable pub item_at : ℕ → ℕ → Item
-item_at x n = record { refused = place_refusal x n; code = cond (eqb (place_refusal x n) 0) (code_of x (n - 1)) 0 }
+-- the point of a column and a row, or the refusal
+unfoldable pub item_at : ℕ → ℕ → Result ℕ Refusal
+item_at x n = answer (place_refusal x n) (code_of x (n - 1))
 
 -- ---- a comma list
 
@@ -95,14 +92,10 @@ list_text_refusal s = first (text_refusal s) (points_refusal s)
 
 -- ---- what is given back of a list, up to its first refused item
 
--- the refusal, the number of the refused item, and codes with zeros behind them
-unfoldable pub leading_answer : ℕ → ℕ → List ℕ → Leading
-leading_answer refused item codes = record { refused = refused; item = item; codes = padded 4097 codes; len = length codes }
+-- the refused item, by its number, and why; none where nothing is refused
+unfoldable pub slip_at : ℕ → ℕ → Option Slip
+slip_at refused item = cond (eqb refused 0) None (Some (record { item = item; refusal = refusal_named refused }))
 
--- of the text of a list
+-- of the text of a list; a text that is a list alone is read where it is not refused as any text is
 unfoldable pub list_found : List ℕ → Leading
-list_found s = leading_answer (points_refusal s) (slip_in s) (leading_in s)
-
--- of a text that is a list alone: where it is refused as any text is, nothing is read
-unfoldable pub leading_found : List ℕ → Leading
-leading_found s = cond (eqb (text_refusal s) 0) (list_found s) (leading_answer (text_refusal s) 0 [])
+list_found s = record { codes = leading_in s; slip = slip_at (points_refusal s) (slip_in s) }

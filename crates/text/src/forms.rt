@@ -1,62 +1,48 @@
 // The cells that a text says to the live entry: stones or moves.
 ghost use Rattle.std.specs.Prelude.{◌≡◌, ◌≤◌, length};
-ghost use Rattle.cells.specs.Answers.{cells_answer};
+ghost use Rattle.rules.specs.Answers.{answer};
 ghost use Rattle.text.specs.Points.{points_refusal};
 ghost use Rattle.text.specs.Reading.{stones_text_refusal, stones_in, moves_in, read_refusal, read_cells};
 
-use super::bytes::{text_refusal, trimmed};
-use super::points::leading_in;
-use cells::{CellsAnswer, moves_cells, stones_cells};
-use lent::{find, head, tail};
-use rules::{first, unless};
+use super::bytes::{has, parted, text_refusal, trimmed};
+use super::points::codes_in;
+use cells::{moves_cells, stones_cells};
+use rules::{Refusal, unless};
 
 // With a slash stones, else moves: a lone point is one move, Black's. No diagram is read here.
-pub fn read_cells(text: &[u8]) -> CellsAnswer
-    ensures { result ≡ cells_answer (read_refusal text.now) (read_cells text.now) }
+#[tactic(auto, unfolding(rules::specs::Answers::answer, rules::specs::Refusals::first, crate::specs::Reading::read_refusal, crate::specs::Reading::form_refusal, crate::specs::Reading::read_cells))]
+pub fn read_cells(text: &[u8]) -> Result<[u8; 225], Refusal>
+    ensures { result ≡ answer (read_refusal text.now) (read_cells text.now) }
 {
-    let refused = text_refusal(text);
-    if refused != 0 {
-        return CellsAnswer::of(refused, [0u8; 225]);
-    }
+    text_refusal(text)?;
     let t = trimmed(text);
-    if find(text, b'/') < text.len() {
-        return stones_in(t);
+    if has(text, b'/') {
+        stones_in(t)
+    } else {
+        moves_in(t)
     }
-    moves_in(t)
 }
 
 // Black's list, a slash, White's list. A second slash is refused, behind whatever is refused of the lists.
-fn stones_in(t: &[u8]) -> CellsAnswer
+#[tactic(auto, unfolding(rules::specs::Answers::answer, rules::specs::Refusals::first, rules::specs::Refusals::unless, crate::specs::Reading::stones_text_refusal, crate::specs::Reading::slash_refusal, crate::specs::Reading::stones_in))]
+fn stones_in(t: &[u8]) -> Result<[u8; 225], Refusal>
     requires { length t.now ≤ 4096 }
-    ensures { result ≡ cells_answer (stones_text_refusal t.now) (stones_in t.now) }
+    ensures { result ≡ answer (stones_text_refusal t.now) (stones_in t.now) }
 {
-    let slash = find(t, b'/');
-    let rest = tail(tail(t, slash), 1);
-    let end = find(rest, b'/');
-    let blacks = leading_in(head(t, slash));
-    let whites = leading_in(head(rest, end));
-    let lists = first(blacks.refused, whites.refused);
-    let refused = first(lists, unless(rest.len() <= end, 3));
-    if refused != 0 {
-        return CellsAnswer::of(refused, [0u8; 225]);
-    }
-    let black_codes = blacks.codes;
-    let white_codes = whites.codes;
-    stones_cells(
-        head(&black_codes, blacks.len),
-        head(&white_codes, whites.len),
-    )
+    let (black, behind) = parted(t, b'/');
+    let (white, third) = parted(behind.unwrap_or(&[]), b'/');
+    let blacks = codes_in(black)?;
+    let whites = codes_in(white)?;
+    unless(third.is_none(), Refusal::NoColumn)?;
+    stones_cells(blacks.as_slice(), whites.as_slice())
 }
 
 // Moves in turn, Black's first.
-fn moves_in(t: &[u8]) -> CellsAnswer
+#[tactic(auto, unfolding(rules::specs::Answers::answer, crate::specs::Reading::moves_in))]
+fn moves_in(t: &[u8]) -> Result<[u8; 225], Refusal>
     requires { length t.now ≤ 4096 }
-    ensures { result ≡ cells_answer (points_refusal t.now) (moves_in t.now) }
+    ensures { result ≡ answer (points_refusal t.now) (moves_in t.now) }
 {
-    let moves = leading_in(t);
-    if moves.refused != 0 {
-        return CellsAnswer::of(moves.refused, [0u8; 225]);
-    }
-    let codes = moves.codes;
-    moves_cells(head(&codes, moves.len))
+    let moves = codes_in(t)?;
+    moves_cells(moves.as_slice())
 }

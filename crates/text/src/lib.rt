@@ -10,9 +10,9 @@ mod point_text;
 mod points;
 
 pub use boards::{read_board, read_diagram};
-pub use bytes::{is_space, leading_space, text_refusal, trimmed};
+pub use bytes::{has, is_space, leading_space, text_refusal, trimmed};
 pub use diagram::read_diagram_cells;
 pub use forms::read_cells;
 pub use line_text::read_line;
 pub use point_text::read_point;
-pub use points::{Leading, read_leading, read_points};
+pub use points::{Leading, Slip, read_leading, read_points};

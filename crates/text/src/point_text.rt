@@ -1,56 +1,36 @@
 // A point in text: one letter, and one or two digits behind it.
-ghost use Rattle.std.specs.Prelude.{◌≡◌, ◌+◌, ◌*◌, get_or, drop};
-ghost use Rattle.rules.specs.Answers.{number_answer};
-ghost use Rattle.text.specs.Points.{column_of, digit_value, number_of, item_at, refused_item, column_in, row_in};
-ghost use Rattle.text.specs.Points.{item_code, point_text_refusal};
+ghost use Rattle.std.specs.Prelude.{◌≡◌, ◌≤◌, get_or, drop};
+ghost use Rattle.rules.specs.Answers.{answer};
+ghost use Rattle.text.specs.Points.{column_of, digit_value, number_of, item_at, item_refusal, item_code, point_text_refusal};
 
 use super::bytes::{text_refusal, trimmed};
-use rules::{NumberAnswer, first};
-
-// A point's code, or the number of a refusal and 0.
-#[derive(Clone, Copy)]
-pub(crate) struct Item {
-    pub(crate) refused: u8,
-    pub(crate) code: u8,
-}
+use rules::{Refusal, unless};
 
 // The point that a text names, as its code.
-pub fn read_point(text: &[u8]) -> NumberAnswer
-    ensures { result ≡ number_answer (point_text_refusal text.now) (item_code text.now) }
+#[tactic(auto, unfolding(rules::specs::Answers::answer, rules::specs::Refusals::first, crate::specs::Points::point_text_refusal))]
+pub fn read_point(text: &[u8]) -> Result<u8, Refusal>
+    ensures { result ≡ answer (point_text_refusal text.now) (item_code text.now) }
 {
-    let item = item_in(text);
-    NumberAnswer::of(first(text_refusal(text), item.refused), item.code)
+    text_refusal(text)?;
+    item_in(text)
 }
 
-pub(crate) fn item_in(s: &[u8]) -> Item
-    ensures { result ≡ item_at (column_in s.now) (row_in s.now) }
+// .. whatever is refused of any text.
+#[tactic(auto, unfolding(crate::specs::Points::item_at, crate::specs::Points::item_refusal, crate::specs::Points::item_code, crate::specs::Points::column_in, crate::specs::Points::row_in))]
+pub(crate) fn item_in(s: &[u8]) -> Result<u8, Refusal>
+    ensures { result ≡ answer (item_refusal s.now) (item_code s.now) }
 {
     let t = trimmed(s);
     item_at(column(first_byte(t)), number(t))
 }
 
-fn item_at(x: u8, n: u8) -> Item
+#[tactic(auto, unfolding(rules::specs::Answers::answer, rules::specs::Refusals::first, rules::specs::Refusals::unless, crate::specs::Points::item_at, crate::specs::Points::place_refusal))]
+fn item_at(x: u8, n: u8) -> Result<u8, Refusal>
     ensures { result ≡ item_at x n }
 {
-    if 15 <= x {
-        return refused_item(3);
-    }
-    if n < 1 {
-        return refused_item(4);
-    }
-    if 15 < n {
-        return refused_item(4);
-    }
-    Item {
-        refused: 0,
-        code: 15 * x + (n - 1),
-    }
-}
-
-fn refused_item(refused: u8) -> Item
-    ensures { result ≡ refused_item refused }
-{
-    Item { refused, code: 0 }
+    unless(x < 15, Refusal::NoColumn)?;
+    unless(1 <= n && n <= 15, Refusal::NoRow)?;
+    Ok(15 * x + (n - 1))
 }
 
 fn first_byte(s: &[u8]) -> u8
@@ -60,6 +40,7 @@ fn first_byte(s: &[u8]) -> u8
 }
 
 // The column of a letter, and 15 for a byte that is none.
+#[tactic(auto, unfolding(crate::specs::Points::column_of))]
 fn column(b: u8) -> u8
     ensures { result ≡ column_of b }
 {
@@ -71,28 +52,22 @@ fn column(b: u8) -> u8
 }
 
 // The number behind a point's letter, of one digit or of two; 0 where there is nothing, or more.
+#[tactic(auto, unfolding(crate::specs::Points::number_of))]
 fn number(s: &[u8]) -> u8
     ensures { result ≡ number_of (drop 1 s.now) }
 {
-    let n = s.len();
-    if n == 2 {
-        return digit_value(s[1]);
+    match s {
+        [_, b] => digit_value(*b),
+        [_, b, e] => 10 * digit_value(*b) + digit_value(*e),
+        _ => 0,
     }
-    if n == 3 {
-        return two_digits(s[1], s[2]);
-    }
-    0
-}
-
-fn two_digits(b: u8, e: u8) -> u8
-    ensures { result ≡ 10 * digit_value b + digit_value e }
-{
-    10 * digit_value(b) + digit_value(e)
 }
 
 // The value of a digit, and 16 for a byte that is none.
+#[tactic(auto, unfolding(crate::specs::Points::digit_value))]
 fn digit_value(b: u8) -> u8
-    ensures { result ≡ digit_value b }
+    ensures value { result ≡ digit_value b }
+    ensures small { result ≤ 16 }
 {
     match b {
         b'0'..=b'9' => b - b'0',

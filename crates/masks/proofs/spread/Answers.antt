@@ -3,6 +3,7 @@ use mathlib.Core.Path.{◌≡◌, ap, ap₂, ◌∙◌}
 use Prim.Native.Nat.{ℕ}
 use native.Mathlib.Omega.{arith}
 use lib.Bits.{bit_or}
+use Rattle.std.proofs.lemmas.Nat.{or_comm}
 use Rattle.rules.specs.Bit.{bit, mask_of}
 use Rattle.rules.specs.Tools.{any_below}
 use Rattle.rules.specs.Line.{spread_at}
@@ -11,19 +12,17 @@ use Rattle.masks.proofs.Windows.{spreads, spread_none, spread-more}
 use Rattle.masks.proofs.spread.Goals as goal
 
 pub loop-k-init : goal.loop-k-init
-loop-k-init c = (omega arith, spread_none (spreads (bit c.args.starts) (bit c.args.cells)))
+loop-k-init c = spread_none (spreads (bit c.args.starts) (bit c.args.cells))
 
 pub loop-k-preserved : goal.loop-k-preserved
-loop-k-preserved c = let a = c.args in (
-  omega arith,
-  ap₂ bit_or c.moved-acc.ensures c.loop-k.invariant.1 ∙ mask-or 16 _ _ ∙ spread-more
-      (spreads (bit a.starts) (bit a.cells)) _,
-)
+loop-k-preserved c =
+    let a = c.args in
+    or_comm c.loop-k.acc c.moved-acc.result ∙ ap₂ bit_or c.moved-acc.ensures c.loop-k.invariant ∙ mask-or 16 _ _ ∙ spread-more (spreads (bit a.starts) (bit a.cells)) _
 
 pub returns : goal.returns
 unfolding spread_at
 returns c =
     let e : c.loop-k.k ≡ 8 = omega arith in
-    c.loop-k.invariant.1 ∙ ap
+    c.loop-k.invariant ∙ ap
     (λ (k : ℕ). mask_of 16
     (λ i. any_below k (spreads (bit c.args.starts) (bit c.args.cells) i))) e

@@ -3,7 +3,7 @@
 use mathlib.Core.Path.{◌≡◌}
 use mathlib.Core.Bool.{cond}
 use mathlib.Core.List.{List}
-use Prim.Native.Nat.{ℕ, ◌-◌, ◌≤◌}
+use Prim.Native.Nat.{ℕ}
 use lib.Dec.{ltb}
 use lib.ListN.{set}
 use Rattle.cells.proofs.change.write_block.Given as goal
@@ -13,7 +13,4 @@ abbrev pub written : List ℕ → ℕ → ℕ → ℕ → ℕ → List ℕ
 written cells code value place i = cond (ltb place i) (set cells code value) cells
 
 abbrev pub invariant-loop-i : goal.invariant-loop-i
-invariant-loop-i l = (l.i ≤ 16) × (l.cells ≡ written l.initial.cells l.code l.value l.place l.i)
-
-abbrev pub decreases-loop-i : goal.decreases-loop-i
-decreases-loop-i l = 16 - l.i
+invariant-loop-i l = l.cells ≡ written l.initial.cells l.code l.value l.place l.i

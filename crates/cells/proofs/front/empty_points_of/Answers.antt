@@ -1,21 +1,13 @@
--- `cells::front::empty_points_of` meets its contract: refused, or the points that hold 0 are collected, then handed out. Assumes nothing.
-use mathlib.Core.Path.{sym, ◌∙◌}
-use native.Mathlib.Omega.{arith}
-use borrow.Author.Rules.{rules}
-use Rattle.lent.proofs.Laws.{held-as, held-le, turned_down}
-use Rattle.cells.proofs.Given.{cells_in}
-use Rattle.cells.proofs.Kept.{empty-list, handed-codes}
+-- `cells::front::empty_points_of` meets its contract: the points whose cell is 0. Assumes nothing.
+use mathlib.Core.Path.{ap, sym, ◌∙◌}
+use lib.ListN.{length}
+use Rattle.rules.proofs.Refusals.{unrefused}
+use Rattle.cells.proofs.Kept.{handed_codes, empty_list}
 use Rattle.cells.proofs.front.empty_points_of.Goals as goal
-
-pub returns-then-refused-ne0 : goal.returns-then-refused-ne0
-returns-then-refused-ne0 c = turned_down 1 _ _ c.cells_refusal-refused.ensures c.if-refused-ne0.true
-
-pub overflow_cast-found : goal.overflow_cast-found
-overflow_cast-found c = record { fits = omega (arith, held-le 225 c.points_with-found.ensures (search rules)) }
 
 pub returns : goal.returns
 returns c =
-    let l = c.args.cells.now in
-    let ok = cells_in l (sym c.cells_refusal-refused.ensures ∙ c.if-refused-ne0.false) in
-    handed-codes _ _ c.cells_refusal-refused.ensures 225 (held-as 225 c.points_with-found.ensures (empty-list l ok))
+    let none = unrefused _ c.cells_refusal.ensures c.in_ok-cells_refusal.was in
+    let listed = c.as_slice.ensures.value in
+    handed_codes _ _ _ none (listed ∙ c.points_with-found.ensures ∙ empty_list c.args.cells.now none) (c.len.ensures.value ∙ sym (ap length listed))
     c.hand_out.ensures

@@ -1,41 +1,26 @@
--- `cells::refusal::codes_refusal` meets its contract: the codes below i are those of points. Assumes nothing.
-use mathlib.Core.Path.{◌≡◌, ap, sym, subst}
-use mathlib.Core.Bool.{Bool}
-use Prim.Native.Nat.{ℕ}
-use native.Mathlib.Omega.{arith}
-use lib.Dec.{T, ltb, lt→ltb}
-use lib.ListN.{length, get_or}
-use borrow.Author.Tests.{le-ltb}
-use Rattle.rules.specs.Refusals.{unless}
+-- `cells::refusal::codes_refusal` meets its contract: the codes before this one are those of points. Assumes nothing.
+use mathlib.Core.Path.{◌≡◌, ◌∙◌}
+use lib.Dec.{ltb, lt→ltb}
+use lib.ListN.{get_or}
 use Rattle.rules.specs.Tools.{all_below}
-use Rattle.rules.proofs.Refusals.{pass}
-use Rattle.rules.proofs.Logic.{all_more, all-fails}
-use Rattle.cells.specs.Cells.{codes_refusal}
+use Rattle.rules.proofs.Logic.{all_more}
+use Rattle.point.proofs.Refused.{code_in}
+use borrow.Author.Rules.{rules}
+use Rattle.rules.proofs.Refusals.{unrefused}
+use Rattle.cells.proofs.Given.{first_refused}
 use Rattle.cells.proofs.refusal.codes_refusal.Goals as goal
 
-pub loop-i-init : goal.loop-i-init
+pub loop-code-init : goal.loop-code-init
 unfolding all_below
-loop-i-init c = (omega arith, tt)
+loop-code-init c = tt
 
-pub returns-then-codes-i-ge225 : goal.returns-then-codes-i-ge225
-unfolding codes_refusal unless
-returns-then-codes-i-ge225 c =
+pub returns-in_err-code_refusal : goal.returns-in_err-code_refusal
+returns-in_err-code_refusal c =
+    let same : c.from_residual.result ≡ c.code_refusal.result = search rules in
+    same ∙ first_refused c.args.codes.now c.loop-code.code-index c.loop-code-test.true c.code_refusal.ensures c.in_err-code_refusal.was
+
+pub loop-code-preserved : goal.loop-code-preserved
+loop-code-preserved c =
     let codes = c.args.codes.now in
-    ap (λ (b : Bool). unless b 8)
-    (sym (all-fails (length codes) (λ n. ltb (get_or codes n 0) 225) c.loop-i.i (omega arith)
-    (le-ltb (get_or codes c.loop-i.i 0) 225 c.if-codes-i-ge225.true)))
-
-pub loop-i-preserved : goal.loop-i-preserved
-loop-i-preserved c =
-    let codes = c.args.codes.now in (
-      omega arith,
-      all_more c.loop-i.i (λ n. ltb (get_or codes n 0) 225) c.loop-i.invariant.1 (lt→ltb (get_or codes c.loop-i.i 0) 225 c.if-codes-i-ge225.false),
-    )
-
-pub returns : goal.returns
-unfolding codes_refusal
-returns c =
-    let codes = c.args.codes.now in
-    let e : c.loop-i.i ≡ length codes = omega arith in
-    sym (pass (all_below (length codes) (λ n. ltb (get_or codes n 0) 225)) 8
-    (subst (λ (k : ℕ). T (all_below k (λ n. ltb (get_or codes n 0) 225))) e c.loop-i.invariant.1))
+    all_more c.loop-code.code-index (λ n. ltb (get_or codes n 0) 225) c.loop-code.invariant
+    (lt→ltb (get_or codes c.loop-code.code-index 0) 225 (code_in _ (unrefused _ c.code_refusal.ensures c.in_ok-code_refusal.was)))

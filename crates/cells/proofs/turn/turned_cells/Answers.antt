@@ -11,16 +11,15 @@ use Rattle.cells.proofs.turn.turned_cells.Goals as goal
 
 pub loop-x-init : goal.loop-x-init
 unfolding zeros
-loop-x-init c = (omega arith, turned_none _ _)
+loop-x-init c = turned_none _ _
 
 pub returns : goal.returns
-unfolding zeros
 returns c =
     let a = c.args in
     let cells = a.cells.now in
     let back = c.undone-back.result in
-    let from = c.write_out.new.out in
-    let all : c.loop-x.x ≡ 15 = omega (arith, c.loop-x.invariant.0, c.loop-x-test.false) in
-    c.loop-x.invariant.1 ∙ ap (λ (n : ℕ). turned_to (15 * n) back from) all
+    let from = c.copied-from.result in
+    let all : c.loop-x.x ≡ 15 = omega arith in
+    c.loop-x.invariant ∙ ap (λ (n : ℕ). turned_to (15 * n) back from) all
     ∙ ap (λ (v : ℕ). turned_to 225 v from) c.undone-back.ensures
-    ∙ turned-all a.view cells from (λ p hp. ap (λ (t : List ℕ). get_or t p 0) c.write_out.ensures.1 ∙ copied cells p hp)
+    ∙ turned-all a.view cells from (λ p hp. ap (λ (t : List ℕ). get_or t p 0) c.copied-from.ensures ∙ copied cells p hp)

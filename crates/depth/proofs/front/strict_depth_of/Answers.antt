@@ -1,33 +1,17 @@
 -- `depth::front::strict_depth_of` meets its contract: refused as the verdict is, or both are of the cells. Assumes nothing.
-use Rattle.rules.specs.Forbidden.{strict_of}
-use Rattle.rules.specs.Depth.{depth_of}
+use mathlib.Core.Path.{ap}
+use Rattle.rules.proofs.Refusals.{answered}
 use Rattle.cells.specs.Cells.{cells_refusal_at}
 use Rattle.cells.proofs.Given.{cells-at-in}
-use Rattle.referee.proofs.Rulings.{tried-asked}
-use Rattle.depth.proofs.Answered.{given-none, depth-given, depth-refused}
+use Rattle.referee.specs.Answers.{ruling_of}
+use Rattle.referee.specs.declared.ruling.Ruling.{Ruling}
 use Rattle.depth.proofs.front.strict_depth_of.Goals as goal
 
 pub ruled_depth-requires : goal.ruled_depth-requires
+unfolding ruling_of
 ruled_depth-requires c =
-    let a = c.args in
-    let cells = a.cells.now in
-    let p = a.code in
-    let e = c.ruling_of-ruling.ensures in
-    let none = given-none (cells_refusal_at cells p) (depth_of cells p) (strict_of cells p) e.0 c.in-Is.is in
-    let (ok, hp) = cells-at-in cells p none in
-    (ok, hp, tried-asked cells p none e.1, e.2)
-
-pub returns-in-Is : goal.returns-in-Is
-returns-in-Is c =
-    let a = c.args in
-    let cells = a.cells.now in
-    let p = a.code in
-    depth-given (cells_refusal_at cells p) (depth_of cells p) (strict_of cells p) c.ruling_of-ruling.ensures.0 c.in-Is.is
-    c.ruled_depth.ensures
-
-pub returns-in-Refused : goal.returns-in-Refused
-returns-in-Refused c =
-    let a = c.args in
-    let cells = a.cells.now in
-    let p = a.code in
-    depth-refused (cells_refusal_at cells p) (depth_of cells p) (strict_of cells p) c.ruling_of-ruling.ensures.0 c.in-Refused.is
+    let cells = c.args.cells.now in
+    let p = c.args.code in
+    let r = answered (cells_refusal_at cells p) (ruling_of cells p) c.ruling_of.ensures c.in_ok-ruling.was in
+    let (ok, hp) = cells-at-in cells p r.0 in
+    (ok, hp, ap (λ (x : Ruling). x.lines) r.1)

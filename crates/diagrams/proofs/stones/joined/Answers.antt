@@ -1,29 +1,31 @@
--- `diagrams::stones::joined` meets its contract: three texts are kept, one behind the other. Assumes nothing.
-use mathlib.Core.Path.{◌≡◌, ap, ap₂}
-use mathlib.Core.List.{List, ◌∷◌, ◌++◌}
+-- `diagrams::stones::joined` meets its contract: there is room for each part behind those before. Assumes nothing.
+use mathlib.Core.Path.{ap, ◌∙◌}
+use mathlib.Core.List.{List, [], ◌∷◌, ◌++◌, append_assoc}
 use Prim.Native.Nat.{ℕ}
 use native.Mathlib.Omega.{arith}
-use lib.ListN.{length}
-use Rattle.lent.specs.Lists.{zeros}
-use Rattle.lent.proofs.Laws.{held-as}
+use lib.ListN.{length, length-append}
+use Rattle.lent.proofs.Laws.{kept_lem}
 use Rattle.text.specs.Bytes.{slash}
-use Rattle.text.proofs.Places.{take-le}
-use Rattle.diagrams.proofs.Sides.{joined-held}
-use borrow.Author.Rules.{rules}
+use Rattle.display.specs.Texts.{points_text}
+use Rattle.diagrams.proofs.Sides.{list_short}
 use Rattle.diagrams.proofs.stones.joined.Goals as goal
 
+pub side_into-requires-2 : goal.side_into-requires-2
+side_into-requires-2 c =
+    let a = c.args.before.now in
+    let first = c.side_into.ensures ∙ ap (λ (l : List ℕ). l ++ points_text a) c.new-text.ensures in
+    let short = list_short a c.requires.1 in
+    let e = ap length first in
+    let kept = ap length (c.keep.ensures ∙ kept_lem 2251 c.side_into.new.text (slash ∷ []) (omega arith)) in
+    let f = length-append c.side_into.new.text (slash ∷ []) in
+    (c.requires.2, c.requires.3, omega arith)
+
 pub returns : goal.returns
-unfolding zeros
 returns c =
-    let e1 = c.head.ensures in
-    let e2 = c.head-2.ensures in
-    let n1 : length c.args.before.bytes ≡ 1125 = search rules in
-    let n2 : length c.args.behind.bytes ≡ 1125 = search rules in
-    let l1 = ap length e1 in
-    let l2 = ap length e2 in
-    held-as 2251
-    (joined-held c.head.result.now c.head-2.result.now
-    (omega (arith, take-le c.args.before.len c.args.before.bytes))
-    (omega (arith, take-le c.args.behind.len c.args.behind.bytes))
-    c.keep-slash.ensures c.keep-next.ensures c.keep-len.ensures)
-    (ap₂ (λ (x y : List ℕ). x ++ slash ∷ y) e1 e2)
+    let a = c.args.before.now in
+    let b = c.args.behind.now in
+    let first = c.side_into.ensures ∙ ap (λ (l : List ℕ). l ++ points_text a) c.new-text.ensures in
+    let short = list_short a c.requires.1 in
+    let e = ap length first in
+    let kept = c.keep.ensures ∙ kept_lem 2251 c.side_into.new.text (slash ∷ []) (omega arith) ∙ ap (λ (l : List ℕ). l ++ slash ∷ []) first in
+    c.side_into-2.ensures ∙ ap (λ (l : List ℕ). l ++ points_text b) kept ∙ append_assoc (points_text a) (slash ∷ []) (points_text b)

@@ -1,41 +1,40 @@
 -- `display::line_text::line_into` meets its contract: after i turns the first i cells are written. Assumes nothing.
-use mathlib.Core.Path.{ap, ◌∙◌}
-use mathlib.Core.Bool.{true}
-use mathlib.Core.List.{[], ◌∷◌}
-use Prim.Native.Nat.{ℕ, ◌-◌}
-use native.Mathlib.Nat.{mul-add}
+use mathlib.Core.Path.{◌≡◌, ap, sym, ◌∙◌}
+use mathlib.Core.List.{[], ◌∷◌, ◌++◌, append-nil}
+use Prim.Native.Nat.{ℕ, ◌*◌}
 use native.Mathlib.Omega.{arith}
-use lib.ListN.{get_or}
-use Rattle.lent.proofs.Laws.{wrote-first, wrote-step, wrote-top}
+use lib.ListN.{length, length-append}
+use borrow.Author.Rules.{rules}
+use Rattle.rules.specs.Tools.{gather}
+use Rattle.lent.proofs.Laws.{gather_none}
 use Rattle.text.specs.Bytes.{blank, dot}
-use Rattle.display.specs.Texts.{letter_or, stepped, cell_text, line_text}
-use Rattle.display.proofs.Writing.{part-fits}
+use Rattle.display.specs.Texts.{letter_or, cell_text, line_text, stepped}
+use Rattle.display.proofs.Sizes.{line-length}
+use Rattle.display.proofs.Turns.{behind_put}
 use Rattle.display.proofs.line_text.line_into.Goals as goal
 
 pub loop-i-init : goal.loop-i-init
-loop-i-init c = (omega arith, omega arith, omega arith, wrote-first _)
+loop-i-init g c = rw (gather_none) (sym (append-nil c.args.text.now))
 
-pub loop-i-preserved : goal.loop-i-preserved
+pub put-requires : goal.put-requires
 unfolding line_text
-loop-i-preserved c =
+put-requires g c =
     let a = c.args in
     let i = c.loop-i.i in
-    let cells = a.cells.now in
-    let f = cell_text (stepped cells a.first a.step) in
-    let on = c.loop-i-test.true in
-    let e = c.loop-i.invariant.1 in
-    let cell = c.letter in
-    let value = c.value_at-value.ensures ∙ ap (λ (q : ℕ). get_or cells q 0) e in
-    let item = ap (λ (x : ℕ). blank ∷ x ∷ []) (cell.ensures ∙ ap (letter_or dot) value) in (
-      omega (arith, on),
-      omega (arith, e, mul-add a.step i 1),
-      omega (arith, c.loop-i.invariant.2, c.requires),
-      wrote-step f i true (blank ∷ cell.result ∷ []) c.loop-i.invariant.3 (omega (arith, part-fits f i a.size on, c.requires))
-          c.keep-n.ensures item,
-    )
+    let f = stepped a.cells.now a.first a.step in
+    let e = ap length c.loop-i.invariant ∙ length-append a.text.now (gather i (cell_text f)) in
+    let two : length (gather i (cell_text f)) ≡ i * 2 = line-length i f in
+    (search rules, omega (arith, c.requires))
+
+pub loop-i-preserved : goal.loop-i-preserved
+loop-i-preserved g c =
+    let a = c.args in
+    let cell = c.letter.ensures ∙ ap (letter_or dot) c.value_at-value.ensures in
+    behind_put a.text.now (cell_text (stepped a.cells.now a.first a.step)) c.loop-i.i c.loop-i.invariant
+    (c.put.ensures ∙ ap (λ (x : ℕ). c.loop-i.text ++ blank ∷ x ∷ []) cell)
 
 pub returns : goal.returns
 unfolding line_text
-returns c =
-    let size = c.args.size in
-    wrote-top _ c.loop-i.i size (omega (arith, c.loop-i.invariant.0, c.loop-i-test.false)) c.loop-i.invariant.3
+returns g c =
+    let e : c.loop-i.i ≡ c.args.size = omega arith in
+    rw e at c.loop-i.invariant

@@ -1,33 +1,25 @@
--- `display::numbered::numbered_row_into` meets its contract: the number, the row and byte 10, one behind the other. Assumes nothing.
-use mathlib.Core.Bool.{true}
-use mathlib.Core.List.{[], ◌∷◌, ◌++◌}
+-- `display::numbered::numbered_row_into` meets its contract: there is room behind the number, and behind the row. Assumes nothing.
+use mathlib.Core.Path.{ap, ◌∙◌}
 use Prim.Native.Nat.{◌-◌}
 use native.Mathlib.Omega.{arith}
-use lib.ListN.{length-append}
-use Rattle.text.specs.Bytes.{newline}
-use Rattle.display.specs.Texts.{right_aligned, row_text, numbered_row}
-use Rattle.display.proofs.Writing.{kept, then, room-behind}
+use lib.ListN.{length, length-append}
+use borrow.Author.Rules.{rules}
+use Rattle.display.specs.Texts.{right_aligned, row_text}
+use Rattle.display.proofs.Sizes.{row_length, right_two}
 use Rattle.display.proofs.numbered.numbered_row_into.Goals as goal
 
-pub right_into-start-requires : goal.right_into-start-requires
-unfolding numbered_row
-right_into-start-requires c =
-    let a = right_aligned (15 - c.args.k) in
-    let b = row_text c.args.cells.now (14 - c.args.k) in
-    let x = length-append (a ++ b) (newline ∷ []) in
-    let y = length-append a b in
-    omega (arith, c.requires.0)
+pub row_into-requires : goal.row_into-requires
+row_into-requires g c =
+    let a = c.args in
+    let e = ap length c.right_into.ensures ∙ length-append a.text.now (right_aligned (15 - a.k)) in
+    let two = right_two (15 - a.k) (omega arith) in
+    (search rules, (omega arith, omega arith))
 
-pub row_into-end-requires : goal.row_into-end-requires
-unfolding numbered_row
-row_into-end-requires c =
-    let a = right_aligned (15 - c.args.k) in
-    let b = row_text c.args.cells.now (14 - c.args.k) in
-    let x = length-append (a ++ b) (newline ∷ []) in
-    (room-behind b c.right_into-start.ensures (omega (arith, c.requires.0)), omega arith)
-
-pub returns : goal.returns
-unfolding numbered_row
-returns c =
-    let w = then c.right_into-start.ensures c.row_into-end.ensures in
-    then w (kept true (newline ∷ []) (room-behind (newline ∷ []) w c.requires.0) c.keep_byte.ensures)
+pub put-requires : goal.put-requires
+put-requires g c =
+    let a = c.args in
+    let e = ap length c.right_into.ensures ∙ length-append a.text.now (right_aligned (15 - a.k)) in
+    let two = right_two (15 - a.k) (omega arith) in
+    let f = ap length c.row_into.ensures ∙ length-append c.right_into.new.text (row_text a.cells.now (14 - a.k)) in
+    let thirty = row_length a.cells.now (14 - a.k) in
+    (search rules, omega arith)

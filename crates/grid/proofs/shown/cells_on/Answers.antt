@@ -8,17 +8,15 @@ use Rattle.grid.proofs.shown.cells_on.Goals as goal
 
 pub loop-i-init : goal.loop-i-init
 unfolding zeros
-loop-i-init c = (omega arith, filled_none 225 (cell_of c.args.lines.now))
+loop-i-init c = filled_none 225 (cell_of c.args.lines.now)
 
 pub loop-i-preserved : goal.loop-i-preserved
 loop-i-preserved c =
-    let l = c.args.lines.now in
-    let i = c.loop-i.i in
-    (omega arith, rw (c.loop-i.invariant.1, c.cell_on.ensures) (filled_more 225 (cell_of l) i (omega arith)))
+    rw (c.loop-i.invariant, c.cell_on.ensures) (filled_more 225 (cell_of c.args.lines.now) c.loop-i.i (omega arith))
 
 pub returns : goal.returns
 unfolding cells_of
 returns c =
     let l = c.args.lines.now in
     let e : c.loop-i.i ≡ 225 = omega arith in
-    c.loop-i.invariant.1 ∙ ap (filled 225 (cell_of l)) e ∙ filled-all 225 (cell_of l)
+    c.loop-i.invariant ∙ ap (filled 225 (cell_of l)) e ∙ filled-all 225 (cell_of l)

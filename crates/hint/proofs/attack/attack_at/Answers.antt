@@ -7,7 +7,9 @@ use Rattle.grid.specs.Lines.{cells_of}
 use Rattle.grid.proofs.Lines.{length-cells_of}
 use Rattle.hint.proofs.Asked.{zero-empty}
 use Rattle.hint.proofs.OnLines.{some-told, taken-there, free-there, put-sound, put-cells, put_back, empty-is}
-use Rattle.hint.proofs.Attacks.{taken-no, five-ends, no-sword-no, forbidden-no, several-ends, eye-lt, eye-free, answered}
+use Rattle.hint.proofs.attack.attack_at.Goals.{then-not-some_row-via-then-not-some_row}
+use Rattle.hint.proofs.attack.attack_at.Goals.{then-not-some_row-via-else-not-some_row+then-is_forbidden}
+use Rattle.hint.proofs.Attacks.{only-told, taken-no, five-ends, no-sword-no, forbidden-no, several-ends, eye-lt, eye-free, answered}
 use Rattle.hint.proofs.attack.attack_at.Goals as goal
 
 pub returns-then-cell_on-ne0 : goal.returns-then-cell_on-ne0
@@ -31,10 +33,16 @@ pub returns-then-not-some_row : goal.returns-then-not-some_row
 returns-then-not-some_row c =
     let C = cells_of c.args.lines.now in
     let p = c.args.code in
-    let z = free-there c.args.lines.now p c.requires.1 c.cell_on.ensures c.if-cell_on-ne0.false in (
-      no-sword-no c.args.side C p (length-cells_of c.args.lines.now) c.requires.1 (zero-empty z) c.requires.3
-          (sym (some-told c.args.side Four C p c.rows_for-rows.ensures.fours c.some_row.ensures) ∙ c.if-some_row.false)
-          (sym (some-told c.args.side Sword C p c.rows_for-rows.ensures.swords c.some_row-2.ensures) ∙ c.if-not-some_row.true),
+    let z = free-there c.args.lines.now p c.requires.1 c.cell_on.ensures c.if-cell_on-ne0.false in
+    let no-five = sym (some-told c.args.side Four C p c.rows_for-rows.ensures.fours c.some_row.ensures) ∙ c.if-some_row.false in (
+      elim c.then-not-some_row.branch [
+        | then-not-some_row-via-then-not-some_row w ↦
+            no-sword-no c.args.side C p (length-cells_of c.args.lines.now) c.requires.1 (zero-empty z) c.requires.3 no-five
+            (sym (some-told c.args.side Sword C p c.rows_for-rows.ensures.swords c.some_row-2.ensures) ∙ w.if-not-some_row.true)
+        | then-not-some_row-via-else-not-some_row+then-is_forbidden w ↦
+            forbidden-no c.args.side C p (length-cells_of c.args.lines.now) c.requires.1 (zero-empty z) c.requires.3 no-five
+            (sym w.is_forbidden.ensures ∙ w.if-is_forbidden.true)
+      ],
       refl,
     )
 
@@ -47,19 +55,8 @@ is_forbidden-requires c = (
   c.rows_for-rows.ensures,
 )
 
-pub returns-then-is_forbidden : goal.returns-then-is_forbidden
-returns-then-is_forbidden c =
-    let C = cells_of c.args.lines.now in
-    let p = c.args.code in
-    let z = free-there c.args.lines.now p c.requires.1 c.cell_on.ensures c.if-cell_on-ne0.false in (
-      forbidden-no c.args.side C p (length-cells_of c.args.lines.now) c.requires.1 (zero-empty z) c.requires.3
-          (sym (some-told c.args.side Four C p c.rows_for-rows.ensures.fours c.some_row.ensures) ∙ c.if-some_row.false)
-          (sym c.is_forbidden.ensures ∙ c.if-is_forbidden.true),
-      refl,
-    )
-
-pub eyes_by-eyes-requires : goal.eyes_by-eyes-requires
-eyes_by-eyes-requires c = (
+pub only_eye-requires : goal.only_eye-requires
+only_eye-requires c = (
   c.requires.0,
   c.requires.1,
   free-there c.args.lines.now c.args.code c.requires.1 c.cell_on.ensures
@@ -71,14 +68,14 @@ eyes_by-eyes-requires c = (
       ∙ c.if-not-some_row.false),
 )
 
-pub returns-then-eyes : goal.returns-then-eyes
-returns-then-eyes c =
+pub returns-in_default : goal.returns-in_default
+returns-in_default c =
     let C = cells_of c.args.lines.now in
     let p = c.args.code in
     let z = free-there c.args.lines.now p c.requires.1 c.cell_on.ensures c.if-cell_on-ne0.false in (
       several-ends c.args.side C p (length-cells_of c.args.lines.now) c.requires.1 (zero-empty z) c.requires.3
           (sym (some-told c.args.side Four C p c.rows_for-rows.ensures.fours c.some_row.ensures) ∙ c.if-some_row.false)
-          (sym c.is_forbidden.ensures ∙ c.if-is_forbidden.false) c.eyes_by-eyes.ensures c.if-eyes.true,
+          (sym c.is_forbidden.ensures ∙ c.if-is_forbidden.false) c.in_default.ensures,
       refl,
     )
 
@@ -91,7 +88,7 @@ answer_at-answer-requires c =
     let z = free-there l p c.requires.1 c.cell_on.ensures c.if-cell_on-ne0.false in
     let no-five = sym (some-told r Four C p c.rows_for-rows.ensures.fours c.some_row.ensures) ∙ c.if-some_row.false in
     let allowed = sym c.is_forbidden.ensures ∙ c.if-is_forbidden.false in
-    let eye = c.eyes_by-eyes.ensures.one c.if-eyes.false in
+    let eye = only-told c.in-Some.ensures in
     let lt = eye-lt r C p (length-cells_of l) c.requires.1 (zero-empty z) c.requires.3 no-five allowed _ eye in (
       put-sound r l _ p c.requires.0 c.requires.1 z c.requires.2 c.mark_by.ensures,
       lt,
@@ -109,7 +106,7 @@ returns c =
     let z = free-there l p c.requires.1 c.cell_on.ensures c.if-cell_on-ne0.false in
     let no-five = sym (some-told r Four C p c.rows_for-rows.ensures.fours c.some_row.ensures) ∙ c.if-some_row.false in
     let allowed = sym c.is_forbidden.ensures ∙ c.if-is_forbidden.false in
-    let eye = c.eyes_by-eyes.ensures.one c.if-eyes.false in (
+    let eye = only-told c.in-Some.ensures in (
       answered r C p (length-cells_of l) c.requires.1 (zero-empty z) c.requires.3 no-five allowed _ eye _
           (rw (
             sym (put-cells r l _ p c.requires.0 c.requires.1 z c.requires.2 c.mark_by.ensures),

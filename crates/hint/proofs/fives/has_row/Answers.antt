@@ -1,6 +1,4 @@
 -- `hint::fives::has_row` meets its contract: the lines passed have no such row. Assumes nothing.
-use mathlib.Core.Bool.{false}
-use Prim.Native.Nat.{◌-◌}
 use native.Mathlib.Omega.{arith}
 use Rattle.grid.specs.Lines.{cells_of}
 use Rattle.hint.specs.Seen.{row_on_key}
@@ -8,8 +6,7 @@ use Rattle.hint.proofs.Lined.{any_none, any-more, any_found, row-there, row-none
 use Rattle.hint.proofs.fives.has_row.Goals as goal
 
 pub loop-key-init : goal.loop-key-init
-loop-key-init c =
-    (omega arith, any_none _)
+loop-key-init c = any_none _
 
 pub returns-then-starts_on-ne0 : goal.returns-then-starts_on-ne0
 returns-then-starts_on-ne0 c =
@@ -19,8 +16,6 @@ returns-then-starts_on-ne0 c =
 
 pub loop-key-preserved : goal.loop-key-preserved
 loop-key-preserved c =
-    let C = cells_of c.args.lines.now in (
-      omega arith,
-      any-more c.loop-key.key (row_on_key c.args.player c.args.kind C) c.loop-key.invariant.1
-          (row-none c.args.player C c.args.kind c.loop-key.key c.starts_on.ensures c.if-starts_on-ne0.false),
-    )
+    let C = cells_of c.args.lines.now in
+    any-more c.loop-key.key (row_on_key c.args.player c.args.kind C) c.loop-key.invariant
+    (row-none c.args.player C c.args.kind c.loop-key.key c.starts_on.ensures c.if-starts_on-ne0.false)

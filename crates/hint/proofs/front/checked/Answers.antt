@@ -15,26 +15,27 @@ pub is_open-requires : goal.is_open-requires
 is_open-requires c =
     lines-sound c.args.cells.now c.requires c.lines_of-lines.ensures
 
-pub returns-then-not-is_open : goal.returns-then-not-is_open
-returns-then-not-is_open c =
+pub returns-else-is_open : goal.returns-else-is_open
+returns-else-is_open c =
     let a = c.args in
-    shut_none a.side a.cells.now
+    c.if-is_open.false
+    ∙ shut_none a.side a.cells.now
     (c.is_open.ensures ∙ ap (λ (C : List ℕ). goes_on C && not (any_below 225 (completes (opponent_of a.side) C)))
     (lines-cells a.cells.now c.requires c.lines_of-lines.ensures))
-    c.if-not-is_open.true a.list.now
+    c.if-is_open.false a.list.now
 
 pub check_on-requires : goal.check_on-requires
 check_on-requires c =
     let a = c.args in (
       lines-sound a.cells.now c.requires c.lines_of-lines.ensures,
-      c.addresses-table.ensures,
-      open-quiet a.side (cells_of c.lines_of-lines.result) c.is_open.ensures c.if-not-is_open.false,
+      c.addresses.ensures,
+      open-quiet a.side (cells_of c.lines_of-lines.result) c.is_open.ensures c.if-is_open.true,
     )
 
-pub returns : goal.returns
-returns c =
+pub returns-then-is_open : goal.returns-then-is_open
+returns-then-is_open c =
     let a = c.args in
     let same = lines-cells a.cells.now c.requires c.lines_of-lines.ensures in
     open-checked a.side a.cells.now
     (c.is_open.ensures ∙ ap (λ (C : List ℕ). goes_on C && not (any_below 225 (completes (opponent_of a.side) C))) same)
-    c.if-not-is_open.false a.list.now (c.check_on.ensures ∙ ap (λ (C : List ℕ). reaches_end a.side C a.list.now) same)
+    c.if-is_open.true a.list.now (c.check_on.ensures ∙ ap (λ (C : List ℕ). reaches_end a.side C a.list.now) same)

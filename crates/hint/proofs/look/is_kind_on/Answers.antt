@@ -2,13 +2,13 @@
 use Rattle.hint.proofs.Asked.{asked-lines, kind-told, never-refused}
 use Rattle.hint.proofs.look.is_kind_on.Goals as goal
 
-pub returns-in-Is : goal.returns-in-Is
-returns-in-Is c =
+pub returns-in-Ok : goal.returns-in-Ok
+returns-in-Ok c =
     kind-told (asked-lines c.args.lines.now c.args.code c.requires c.cells_on-cells.ensures c.forbidden_strict_of.ensures)
-    c.in-Is.is c.is_none.ensures
+    c.in-Ok.is c.is_none.ensures
 
-pub returns-in-Refused : goal.returns-in-Refused
-returns-in-Refused c =
+pub returns-in-Err : goal.returns-in-Err
+returns-in-Err c =
     absurd
     (never-refused (asked-lines c.args.lines.now c.args.code c.requires c.cells_on-cells.ensures c.forbidden_strict_of.ensures)
-    c.in-Refused.is)
+    c.in-Err.is)

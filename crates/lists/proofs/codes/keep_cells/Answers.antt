@@ -1,34 +1,41 @@
 -- `lists::codes::keep_cells` meets its contract: after j turns the cells below j are looked at. Assumes nothing.
-use mathlib.Core.List.{[], ◌∷◌}
-use Prim.Native.Nat.{◌-◌}
+use mathlib.Core.Path.{◌≡◌, ap, sym, ◌∙◌}
+use mathlib.Core.List.{[], ◌∷◌, ◌++◌, append-nil}
+use Prim.Native.Nat.{ℕ}
 use native.Mathlib.Omega.{arith}
+use lib.ListN.{length, length-append}
+use Rattle.rules.specs.Tools.{gather}
 use Rattle.rules.specs.Bit.{bit}
 use Rattle.rules.specs.Point.{line_size, point_at}
 use Rattle.rules.proofs.Address.{size-le}
-use Rattle.lent.proofs.Laws.{wrote-first, wrote-step, wrote-top, short}
-use Rattle.lists.specs.Lists.{cell_list}
+use Rattle.lent.proofs.Laws.{short}
+use Rattle.cells.proofs.Kept.{behind_kept, behind_passed}
+use Rattle.lists.specs.Lists.{cell_item, cell_list}
 use Rattle.lists.proofs.codes.keep_cells.Goals as goal
+use Rattle.lists.proofs.codes.keep_cells.Goals.{then-bit_at, else-bit_at}
 
 pub loop-j-init : goal.loop-j-init
-loop-j-init c = (omega arith, wrote-first _)
+unfolding gather
+loop-j-init c = sym (append-nil c.args.list.now)
 
 pub loop-j-preserved : goal.loop-j-preserved
 loop-j-preserved c =
     let a = c.args in
     let j = c.loop-j.j in
-    let there = c.code_at in
-    let on = c.loop-j-test.true in
+    let f = cell_item a.d a.i (bit a.cells) in
+    let long = ap length c.loop-j.invariant ∙ length-append a.list.now (gather j f) in
     let fit = short 1 (bit a.cells) (λ j. point_at a.d a.i j ∷ []) (λ j. omega arith) j in
-    let size = c.line_size-size.ensures in
-    let top = size-le a.d a.i in (
-      omega (arith, on),
-      wrote-step _ j _ (there.result ∷ []) c.loop-j.invariant.1 (omega (arith, fit, size, top, on, c.requires.2))
-          c.keep-m.ensures (rw (c.bit_at-on.ensures, there.ensures.0)),
-    )
+    let top = size-le a.d a.i in
+    elim c.if-bit_at.branch [
+      | then-bit_at w ↦ w.list-is ∙ behind_kept _ a.list.now f j c.loop-j.invariant (w.code_at.result ∷ []) w.keep.ensures
+          (omega (arith, long, fit, top, c.loop-j-test.true, c.line_size-j-end.ensures, c.requires.2))
+          (rw (w.code_at.ensures.0, sym c.bit_at.ensures ∙ w.if-bit_at.true))
+      | else-bit_at w ↦ behind_passed 0 a.list.now f j c.loop-j.invariant w.list-is (rw (sym c.bit_at.ensures ∙ w.if-bit_at.false))
+    ]
 
 pub returns : goal.returns
 unfolding cell_list
 returns c =
     let a = c.args in
-    wrote-top _ c.loop-j.j (line_size a.d a.i) (omega (arith, c.line_size-size.ensures, c.loop-j.invariant.0, c.loop-j-test.false))
-    c.loop-j.invariant.1
+    let e : c.loop-j.j ≡ line_size a.d a.i = omega (arith, c.line_size-j-end.ensures) in
+    c.loop-j.invariant ∙ ap (λ (n : ℕ). a.list.now ++ gather n (cell_item a.d a.i (bit a.cells))) e

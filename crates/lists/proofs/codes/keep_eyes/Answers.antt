@@ -1,10 +1,10 @@
 -- `lists::codes::keep_eyes` meets its contract: the cells that are kept are the eyes. Assumes nothing.
-use mathlib.Core.Path.{ap₂, ◌∙◌}
+use mathlib.Core.Path.{ap, ap₂, ◌∙◌}
+use mathlib.Core.List.{List, ◌++◌}
 use Prim.Native.Nat.{ℕ}
 use Rattle.rules.specs.Bit.{bit}
 use Rattle.rules.proofs.Address.{line-here}
 use Rattle.grid.specs.Lines.{cells_of}
-use Rattle.lent.proofs.Laws.{wrote_as}
 use Rattle.lists.specs.Lists.{cell_list}
 use Rattle.lists.proofs.Shown.{eye-list}
 use Rattle.lists.proofs.codes.keep_eyes.Goals as goal
@@ -17,7 +17,6 @@ keep_cells-requires c =
 pub returns : goal.returns
 returns c =
     let a = c.args in
-    wrote_as c.keep_cells.ensures
-    (ap₂ (λ (i m : ℕ). cell_list a.d i (bit m)) c.line_no.ensures
-    c.eyes_along-eyes.ensures
-    ∙ eye-list a.player (cells_of a.lines.now) a.code a.d)
+    c.keep_cells.ensures
+    ∙ ap (λ (x : List ℕ). a.list.now ++ x)
+    (ap₂ (λ (i m : ℕ). cell_list a.d i (bit m)) c.line_no.ensures c.eyes_along-eyes.ensures ∙ eye-list a.player (cells_of a.lines.now) a.code a.d)

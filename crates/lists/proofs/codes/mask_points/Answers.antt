@@ -1,40 +1,53 @@
 -- `lists::codes::mask_points` meets its contract: after k turns the bits below k are looked at. Assumes nothing.
+use mathlib.Core.Path.{◌≡◌, ap, sym, ◌∙◌}
 use mathlib.Core.List.{[], ◌∷◌}
-use Prim.Native.Nat.{◌+◌, ◌-◌}
+use Prim.Native.Nat.{ℕ, ◌+◌}
 use native.Mathlib.Omega.{arith}
-use mathlib.Core.Path.{sym}
+use Rattle.rules.specs.Tools.{gather}
 use Rattle.rules.specs.Bit.{bit}
 use Rattle.rules.specs.Point.{key_size, key_point}
 use Rattle.rules.proofs.Logic.{all-elim}
-use Rattle.lent.specs.Lists.{zeros}
-use Rattle.lent.proofs.Laws.{wrote-start, gather-step, gather-end, short}
+use Rattle.lent.proofs.Laws.{gather_none, gather_kept, gather_passed, short}
 use Rattle.lists.specs.Lists.{mask_item, mask_points, mask_cell}
+use Rattle.lists.proofs.Masked.{mask-small, mask-cell}
 use Rattle.lists.proofs.codes.mask_points.Goals as goal
+use Rattle.lists.proofs.codes.mask_points.Goals.{then-bit_at, else-bit_at}
 
 pub loop-k-init : goal.loop-k-init
-unfolding zeros
-loop-k-init c = (omega arith, wrote-start 225 _)
+loop-k-init c = let a = c.args in c.new-list.ensures ∙ sym (gather_none (mask_item a.key a.j a.mask))
 
-pub mask_at-found-requires : goal.mask_at-found-requires
-mask_at-found-requires c =
+pub overflow_add-j : goal.overflow_add-j
+overflow_add-j c =
     let a = c.args in
     let h = c.requires in
-    (h.0, all-elim 8 (mask_cell (key_size a.key) a.j a.mask) h.1 c.loop-k.k (omega arith))
+    let t = all-elim 8 (mask_cell (key_size a.key) a.j a.mask) h.1 c.loop-k.k c.loop-k-test.true in
+    record { fits = mask-small a.key a.j a.mask c.loop-k.k h.0 (sym c.bit_at.ensures ∙ c.if-bit_at.true) t }
+
+pub code_at-requires : goal.code_at-requires
+code_at-requires c =
+    let a = c.args in
+    let h = c.requires in
+    let t = all-elim 8 (mask_cell (key_size a.key) a.j a.mask) h.1 c.loop-k.k c.loop-k-test.true in
+    rw (c.key_no-i.ensures, c.key_direction-d.ensures)
+    (mask-cell a.key a.j a.mask c.loop-k.k h.0 (sym c.bit_at.ensures ∙ c.if-bit_at.true) t)
 
 pub loop-k-preserved : goal.loop-k-preserved
+unfolding key_point
 loop-k-preserved c =
     let a = c.args in
     let k = c.loop-k.k in
-    let found = c.mask_at-found in
-    let fit = short 1 (bit a.mask) (λ i. key_point a.key (a.j + i) ∷ []) (λ i. omega arith) k in (
-      omega arith,
-      gather-step 225 (mask_item a.key a.j a.mask) k _ _ _ (found.result.code ∷ []) _ _ c.loop-k.invariant.1 (omega arith)
-          c.keep-n.ensures (sym found.ensures),
-    )
+    let f = mask_item a.key a.j a.mask in
+    let fit = short 1 (bit a.mask) (λ i. key_point a.key (a.j + i) ∷ []) (λ i. omega arith) k in
+    elim c.if-bit_at.branch [
+      | then-bit_at w ↦ w.list-is ∙ gather_kept 8 f k c.loop-k.invariant (w.code_at.result ∷ []) w.keep.ensures
+          (omega (arith, fit, c.loop-k-test.true))
+          (rw (w.code_at.ensures.0, c.key_no-i.ensures, c.key_direction-d.ensures, sym c.bit_at.ensures ∙ w.if-bit_at.true))
+      | else-bit_at w ↦ gather_passed 8 f k c.loop-k.invariant w.list-is (rw (sym c.bit_at.ensures ∙ w.if-bit_at.false))
+    ]
 
 pub returns : goal.returns
 unfolding mask_points
 returns c =
     let a = c.args in
-    let fit = short 1 (bit a.mask) (λ i. key_point a.key (a.j + i) ∷ []) (λ i. omega arith) 8 in
-    gather-end 225 (mask_item a.key a.j a.mask) c.loop-k.k 8 _ _ c.loop-k.invariant.1 (omega arith) (omega arith)
+    let e : c.loop-k.k ≡ 8 = omega arith in
+    c.loop-k.invariant ∙ ap (λ (n : ℕ). gather n (mask_item a.key a.j a.mask)) e

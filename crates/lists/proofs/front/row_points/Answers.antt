@@ -1,23 +1,24 @@
--- `lists::front::row_points` meets its contract: refused, or the points are collected, then handed out. Assumes nothing.
-use mathlib.Core.Path.{sym, ◌∙◌}
+-- `lists::front::row_points` meets its contract: refused, or the list is collected, then handed out. Assumes nothing.
+use mathlib.Core.Path.{ap, ap₂, sym, ◌∙◌}
 use native.Mathlib.Omega.{arith}
-use Rattle.lent.proofs.Laws.{held-le, turned_down}
-use Rattle.lists.proofs.Masked.{mask-open}
 use borrow.Author.Rules.{rules}
-use Rattle.cells.proofs.Kept.{handed-codes}
+use lib.ListN.{length}
+use Rattle.rules.proofs.Refusals.{unrefused}
+use Rattle.lent.proofs.Handed.{handed, turned_down}
+use Rattle.lists.proofs.Masked.{mask-open}
 use Rattle.lists.proofs.front.row_points.Goals as goal
 
-pub returns-then-refused-ne0 : goal.returns-then-refused-ne0
-returns-then-refused-ne0 c = turned_down 1 _ _ c.mask_refusal-refused.ensures c.if-refused-ne0.true
+pub returns-in_err-mask_refusal : goal.returns-in_err-mask_refusal
+returns-in_err-mask_refusal c = turned_down 1 _ _ _ (sym c.mask_refusal.ensures ∙ c.in_err-mask_refusal.was) (search rules)
 
 pub mask_points-found-requires : goal.mask_points-found-requires
 mask_points-found-requires c =
     let a = c.args in
-    mask-open a.key a.j a.mask (sym c.mask_refusal-refused.ensures ∙ c.if-refused-ne0.false)
-
-pub overflow_cast-found : goal.overflow_cast-found
-overflow_cast-found c = record { fits = omega (arith, held-le 225 c.mask_points-found.ensures (search rules)) }
+    mask-open a.key a.j a.mask (unrefused _ c.mask_refusal.ensures c.in_ok-mask_refusal.was)
 
 pub returns : goal.returns
 returns c =
-    handed-codes _ _ c.mask_refusal-refused.ensures 225 c.mask_points-found.ensures c.hand_out.ensures
+    let a = c.args in
+    let listed = c.as_slice.ensures.value in
+    handed 1 _ _ _ (unrefused _ c.mask_refusal.ensures c.in_ok-mask_refusal.was) (listed ∙ c.mask_points-found.ensures)
+    (omega (arith, c.len.ensures.value, ap length listed)) c.hand_out.ensures

@@ -1,32 +1,37 @@
--- `lists::row_bytes::all_rows` meets its contract: after as many turns the lines of the keys below are done. Assumes nothing.
-use Prim.Native.Nat.{◌-◌}
+-- `lists::row_bytes::all_rows` meets its contract: after as many turns the lines before are done. Assumes nothing.
+use mathlib.Core.Path.{◌≡◌, ap, sym, ◌∙◌}
+use Prim.Native.Nat.{ℕ}
 use native.Mathlib.Omega.{arith}
+use lib.ListN.{length}
+use Rattle.rules.specs.Tools.{gather}
+use Rattle.rules.specs.Grid.{rows_of, key_rows}
+use Rattle.grid.specs.Lines.{cells_of}
+use Rattle.lent.proofs.Laws.{gather_none, gather_put, gather-length}
 use Rattle.rules.specs.Point.{key_dir, key_no}
-use Rattle.rules.specs.Grid.{rows_of}
-use Rattle.lent.specs.Lists.{zeros}
-use Rattle.lent.proofs.Laws.{wrote-start, wrote-length, wrote-part}
 use Rattle.lists.proofs.Kept.{rows_short}
-use Rattle.cells.proofs.Kept.{parts-place, parts-end}
 use Rattle.lists.proofs.row_bytes.all_rows.Goals as goal
 
 pub loop-key-init : goal.loop-key-init
-unfolding zeros
-loop-key-init c = (omega arith, wrote-start 4320 _)
+loop-key-init c =
+    let a = c.args in
+    c.new-list.ensures ∙ sym (gather_none (key_rows a.player a.kind (cells_of a.lines.now)))
 
-pub keep_key-n-requires : goal.keep_key-n-requires
-keep_key-n-requires c =
+pub keep_key-requires : goal.keep_key-requires
+keep_key-requires c =
+    let a = c.args in
     let h = c.requires in
     let on = c.loop-key-test.true in
-    let at = parts-place 4320 60 _ (λ i. rows_short _ _ _ (key_dir i) (key_no i) _) c.loop-key.key
-    c.loop-key.invariant.1 in
-    (h, on, omega (arith, at, on, wrote-length 4320 c.loop-key.invariant.1))
+    let few = gather-length 60 c.loop-key.key (key_rows a.player a.kind (cells_of a.lines.now)) (λ i l. rows_short _ _ _ (key_dir i) (key_no i) _) in
+    (h, on, omega (arith, ap length c.loop-key.invariant, few, on))
 
 pub loop-key-preserved : goal.loop-key-preserved
 loop-key-preserved c =
-    (omega arith, wrote-part _ c.loop-key.key c.loop-key.invariant.1 c.keep_key-n.ensures)
+    let a = c.args in
+    gather_put 4320 (key_rows a.player a.kind (cells_of a.lines.now)) c.loop-key.key c.loop-key.invariant c.keep_key.ensures
 
 pub returns : goal.returns
 unfolding rows_of
 returns c =
-    parts-end 4320 60 _ (λ i. rows_short _ _ _ (key_dir i) (key_no i) _) c.loop-key.key 72
-    (omega arith) (omega arith) c.loop-key.invariant.1
+    let a = c.args in
+    let e : c.loop-key.key ≡ 72 = omega arith in
+    c.loop-key.invariant ∙ ap (λ (n : ℕ). gather n (key_rows a.player a.kind (cells_of a.lines.now))) e

@@ -1,12 +1,16 @@
 -- `lists::row_bytes::keep_key` meets its contract: the starts on a sound line are those of its rows. Assumes nothing.
-use Rattle.lent.proofs.Laws.{wrote_as}
+use mathlib.Core.Path.{ap, ◌∙◌}
+use mathlib.Core.List.{List, ◌++◌}
+use Prim.Native.Nat.{ℕ}
+use native.Mathlib.Omega.{arith}
 use Rattle.lists.proofs.Shown.{key-rows}
 use Rattle.lists.proofs.row_bytes.keep_key.Goals as goal
 
 pub returns : goal.returns
 returns c =
     let a = c.args in
-    wrote_as c.keep_rows.ensures
+    c.keep_rows.ensures
+    ∙ ap (λ (x : List ℕ). a.list.now ++ x)
     (rw (
       c.row_starts-starts.ensures,
       c.is_black.ensures,
@@ -16,3 +20,6 @@ returns c =
       c.mask_on-my.ensures,
     )
     (key-rows a.player a.kind a.lines.now c.requires.0 a.key c.requires.1))
+
+pub keep_rows-requires : goal.keep_rows-requires
+keep_rows-requires c = (omega arith, (c.requires.1, c.requires.2))

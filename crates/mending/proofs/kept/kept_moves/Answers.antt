@@ -1,9 +1,13 @@
--- `mending::kept::kept_moves` meets its contract: the moves are kept in a fresh buffer. Assumes nothing.
-use Rattle.lent.specs.Lists.{zeros}
-use Rattle.mending.proofs.Moves.{kept-given}
+-- `mending::kept::kept_moves` meets its contract: there is room for the moves. Assumes nothing.
+use mathlib.Core.Path.{◌≡◌, ◌∙◌}
+use mathlib.Core.List.{[]}
+use native.Mathlib.Omega.{arith}
+use Rattle.lent.proofs.Laws.{kept_lem}
 use Rattle.mending.proofs.kept.kept_moves.Goals as goal
 
 pub returns : goal.returns
-unfolding zeros
 returns c =
-    kept-given _ _ _ _ _ c.requires c.keep-len.ensures c.slip_number-item.ensures
+    let moves = c.args.moves.now in
+    let put : c.keep.new.self ≡ moves
+    = rw c.new-kept.ensures at c.keep.ensures ∙ kept_lem 225 [] moves (omega (arith, c.requires)) in
+    rw (put, c.slip_behind.ensures)

@@ -10,6 +10,6 @@ returns c =
     let e = rows_are a.blacks a.whites a.code true c.outside-off.ensures c.joined.ensures c.joined-2.ensures refl
     refl c.windows_of.ensures c.rows_from-rows.ensures in (
       four-told a.blacks a.whites a.code true e c.some_row.ensures,
-      may-told a.blacks a.whites a.code true e c.some_row-2.ensures c.more_than_one.ensures
-          c.more_than_one-2.ensures c.any_of.ensures,
+      may-told a.blacks a.whites a.code true e c.some_row-overline.ensures c.more_than_one-double_four.ensures
+          c.more_than_one-double_two.ensures,
     )

@@ -8,5 +8,5 @@ use Rattle.records.proofs.bytes.bytes_of.Goals as goal
 pub returns : goal.returns
 returns c =
     let e : c.loop-i.i ≡ 4097 = omega arith in
-    let f = rw e at c.loop-i.invariant.1 in
+    let f = rw e at c.loop-i.invariant in
     (sym f.whole, filled-all 4097 (spelled_at c.args.digits.now) c.loop-i.bytes f)

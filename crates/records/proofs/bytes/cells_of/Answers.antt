@@ -8,5 +8,5 @@ use Rattle.records.proofs.bytes.cells_of.Goals as goal
 pub returns : goal.returns
 returns c =
     let e : c.loop-i.i ≡ 225 = omega arith in
-    let f = rw e at c.loop-i.invariant.1 in
+    let f = rw e at c.loop-i.invariant in
     (sym f.whole, filled-all 225 (cell_in c.args.field.now) c.loop-i.cells f)

@@ -1,17 +1,17 @@
 -- The six functions of the cycle meet their contracts. What falls at each call is six times the number of empty points, and a little:
 -- on one board `two_real` 6, `open_asked` 5, `is_real` 4, `strict_by` 3, `plain` 2, `trial` 1. Assumes nothing.
-use mathlib.Core.Path.{refl, ap, sym, ◌∙◌}
+use mathlib.Core.Path.{refl, ap, ◌∙◌}
+use mathlib.Core.Bool.{not}
 use mathlib.Core.List.{List}
 use native.Mathlib.Omega.{arith}
 use Rattle.rules.specs.Forbidden.{is_real, strict_of, real_double}
 use Rattle.grid.specs.Lines.{cells_of}
-use Rattle.referee.specs.Referee.{plain_by, strict_by}
 use Rattle.referee.proofs.RowsSeen.{triable}
 use Rattle.referee.proofs.EyeFound.{eye-small, eye-empty, five-seen, real-seen}
 use Rattle.referee.proofs.Asked.{on-sound, on-cells, on-fewer, on-threes, added, lifted}
 use Rattle.referee.proofs.Told.{open-left, left-three, known-settled, one-settled, stays-settled}
 use Rattle.referee.proofs.Told.{next-there, next-further, walk_first, walk-on, walk-done}
-use Prim.Native.Nat.{ℕ, ◌+◌, ◌-◌, ◌/◌, ◌%◌, ◌<◌}
+use Prim.Native.Nat.{ℕ, ◌+◌, ◌/◌, ◌%◌, ◌<◌}
 use Rattle.referee.proofs.cycle.+questions.Goals as goal
 
 pub is_real-rows_on-rows-requires : goal.is_real-rows_on-rows-requires
@@ -21,14 +21,6 @@ is_real-rows_on-rows-requires t c =
       eye-small c.args.lines.now c.args.code (c.args.three / 16) (c.args.three % 16) t.0 t.1 (omega (arith, t.2)) t.3
           c.eye_on-eye.ensures,
       t.4,
-    )
-
-pub is_real-returns-then-some_row : goal.is_real-returns-then-some_row
-is_real-returns-then-some_row t c =
-    let t = c.requires in (
-      five-seen c.args.lines.now c.args.code (c.args.three / 16) (c.args.three % 16) t.0 t.1 (omega (arith, t.2)) t.3
-          c.eye_on-eye.ensures c.rows_on-rows.ensures c.some_row.ensures c.if-some_row.true,
-      refl,
     )
 
 pub is_real-strict_by-requires : goal.is_real-strict_by-requires
@@ -48,12 +40,20 @@ is_real-strict_by-requires t c =
       ),
     )
 
-pub is_real-returns : goal.is_real-returns
-is_real-returns t c =
+pub is_real-returns-else-not-some_row : goal.is_real-returns-else-not-some_row
+is_real-returns-else-not-some_row t c =
+    let t = c.requires in (
+      ap not c.if-not-some_row.false ∙ five-seen c.args.lines.now c.args.code (c.args.three / 16) (c.args.three % 16) t.0 t.1 (omega (arith, t.2)) t.3
+          c.eye_on-eye.ensures c.rows_on-rows.ensures c.some_row.ensures c.if-not-some_row.false,
+      refl,
+    )
+
+pub is_real-returns-then-not-some_row : goal.is_real-returns-then-not-some_row
+is_real-returns-then-not-some_row t c =
     let t = c.requires in (
       c.is_none.ensures
           ∙ real-seen c.args.lines.now c.args.code (c.args.three / 16) (c.args.three % 16) t.0 t.1 (omega (arith, t.2))
-          t.3 c.eye_on-eye.ensures c.rows_on-rows.ensures c.some_row.ensures c.if-some_row.false c.strict_by.ensures.0,
+          t.3 c.eye_on-eye.ensures c.rows_on-rows.ensures c.some_row.ensures c.if-not-some_row.true c.strict_by.ensures.0,
       c.strict_by.ensures.1,
     )
 
@@ -99,66 +99,6 @@ pub open_asked-returns : goal.open_asked-returns
 open_asked-returns t c =
     let v = c.loop-three.invariant in
     (walk-done (cells_of c.args.lines.now) c.args.code v.1 _ _ c.loop-three-test.false v.4 c.more_than_one.ensures, v.0)
-
-pub plain-returns-then-some_row : goal.plain-returns-then-some_row
-unfolding plain_by
-plain-returns-then-some_row t c =
-    (rw (sym c.some_row.ensures ∙ c.if-some_row.true) refl, refl)
-
-pub plain-returns-then-more_than_one : goal.plain-returns-then-more_than_one
-unfolding plain_by
-plain-returns-then-more_than_one t c =
-    (rw (sym c.some_row.ensures ∙ c.if-some_row.false, sym c.more_than_one.ensures ∙ c.if-more_than_one.true) refl, refl)
-
-pub plain-returns-then-trial : goal.plain-returns-then-trial
-unfolding plain_by
-plain-returns-then-trial t c =
-    let r = c.trial.ensures in (
-      rw (
-        sym c.some_row.ensures ∙ c.if-some_row.false,
-        sym c.more_than_one.ensures ∙ c.if-more_than_one.false,
-        sym c.more_than_one-2.ensures ∙ c.if-more_than_one-2.true,
-        sym r.0 ∙ c.if-trial.true,
-      )
-          refl,
-      r.1,
-    )
-
-pub plain-returns-else-trial : goal.plain-returns-else-trial
-unfolding plain_by
-plain-returns-else-trial t c =
-    let r = c.trial.ensures in (
-      rw (
-        sym c.some_row.ensures ∙ c.if-some_row.false,
-        sym c.more_than_one.ensures ∙ c.if-more_than_one.false,
-        sym c.more_than_one-2.ensures ∙ c.if-more_than_one-2.true,
-        sym r.0 ∙ c.if-trial.false,
-      )
-          refl,
-      r.1,
-    )
-
-pub plain-returns-else-more_than_one-2 : goal.plain-returns-else-more_than_one-2
-unfolding plain_by
-plain-returns-else-more_than_one-2 t c = (
-  rw (
-    sym c.some_row.ensures ∙ c.if-some_row.false,
-    sym c.more_than_one.ensures ∙ c.if-more_than_one.false,
-    sym c.more_than_one-2.ensures ∙ c.if-more_than_one-2.false,
-  )
-      refl,
-  refl,
-)
-
-pub strict_by-returns-then-some_row : goal.strict_by-returns-then-some_row
-unfolding strict_by
-strict_by-returns-then-some_row t c =
-    (rw (sym c.some_row.ensures ∙ c.if-some_row.true) refl, refl)
-
-pub strict_by-returns : goal.strict_by-returns
-unfolding strict_by
-strict_by-returns t c =
-    (c.plain.ensures.0 ∙ rw (sym c.some_row.ensures ∙ c.if-some_row.false) refl, c.plain.ensures.1)
 
 pub trial-two_real-real-requires : goal.trial-two_real-real-requires
 trial-two_real-real-requires t c =

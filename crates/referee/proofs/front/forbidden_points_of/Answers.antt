@@ -1,13 +1,10 @@
 -- `referee::front::forbidden_points_of` meets its contract: refused, or listed. Assumes nothing.
-use mathlib.Core.Path.{sym, ◌∙◌}
-use Rattle.lent.proofs.Laws.{turned_down}
+use Rattle.rules.proofs.Refusals.{unrefused}
+use Rattle.cells.specs.Cells.{cells_refusal}
 use Rattle.cells.proofs.Given.{cells_in}
 use Rattle.referee.proofs.front.forbidden_points_of.Goals as goal
 
-pub returns-then-refused-ne0 : goal.returns-then-refused-ne0
-returns-then-refused-ne0 c =
-    turned_down 2 _ _ c.cells_refusal-refused.ensures c.if-refused-ne0.true
-
 pub listed-requires : goal.listed-requires
 listed-requires c =
-    cells_in _ (sym c.cells_refusal-refused.ensures ∙ c.if-refused-ne0.false)
+    let cells = c.args.cells.now in
+    cells_in cells (unrefused (cells_refusal cells) c.cells_refusal.ensures c.in_ok-cells_refusal.was)

@@ -1,13 +1,10 @@
 -- `referee::front::forbidden_refusal` meets its contract. Assumes nothing.
-use Rattle.referee.proofs.Ruled.{refused-first, refused-taken}
+use Rattle.rules.proofs.Refusals.{unrefused}
+use Rattle.board.specs.Boards.{refusal_at}
+use Rattle.referee.proofs.Ruled.{refused-taken}
 use Rattle.referee.proofs.front.forbidden_refusal.Goals as goal
-
-pub returns-then-refused-ne0 : goal.returns-then-refused-ne0
-returns-then-refused-ne0 c =
-    let a = c.args in
-    refused-first a.board a.code c.refusal_at-refused.ensures c.if-refused-ne0.true
 
 pub returns : goal.returns
 returns c =
     let a = c.args in
-    refused-taken a.board a.code c.refusal_at-refused.ensures c.if-refused-ne0.false c.cell_on.ensures c.unless.ensures
+    refused-taken a.board a.code (unrefused (refusal_at a.board a.code) c.refusal_at.ensures c.in_ok-refusal_at.was) c.cell_on.ensures c.unless.ensures

@@ -1,7 +1,7 @@
 -- `referee::known::looked_at` meets its contract. Assumes nothing.
 use mathlib.Core.Path.{sym, subst}
 use native.Mathlib.Omega.{arith}
-use Prim.Native.Nat.{ℕ, ◌+◌, ◌-◌, ◌<◌}
+use Prim.Native.Nat.{ℕ, ◌+◌, ◌<◌}
 use lib.Dec.{T}
 use Rattle.rules.specs.Grid.{starts_of, numbered}
 use Rattle.rules.proofs.Numbered.{next-on}

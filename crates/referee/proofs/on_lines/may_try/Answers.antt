@@ -1,18 +1,17 @@
 -- `referee::on_lines::may_try` meets its contract: refused, or the cell there is read. Assumes nothing.
-use mathlib.Core.Path.{refl, sym, ◌∙◌}
-use Rattle.referee.proofs.Asked.{free-is}
-use Rattle.rules.proofs.Refusals.{tested, not_tested}
-use Rattle.board.specs.Boards.{board_with}
+use mathlib.Core.Path.{refl}
+use Rattle.rules.specs.Answers.{answer}
+use Rattle.rules.proofs.Refusals.{unrefused}
+use Rattle.board.specs.Boards.{board_with, refusal_at}
 use Rattle.board.proofs.Given.{at_in}
+use Rattle.referee.proofs.Asked.{free-is}
 use Rattle.referee.proofs.on_lines.may_try.Goals as goal
 
-pub returns-then-refused-ne0 : goal.returns-then-refused-ne0
-returns-then-refused-ne0 c = (not_tested _ c.refusal_at-refused.ensures c.if-refused-ne0.true, refl)
-
 pub returns : goal.returns
+unfolding answer
 returns c =
     let a = c.args in
-    let (_, hp) = at_in (board_with a.lines.now a.blacks a.whites) a.code (sym c.refusal_at-refused.ensures ∙ c.if-refused-ne0.false) in (
-      tested _ c.refusal_at-refused.ensures c.if-refused-ne0.false (sym (free-is a.lines.now a.code hp c.cell_on.ensures)),
-      refl,
-    )
+    let b = board_with a.lines.now a.blacks a.whites in
+    let z = unrefused (refusal_at b a.code) c.refusal_at.ensures c.in_ok-refusal_at.was in
+    let (_, hp) = at_in b a.code z in
+    (rw (z, free-is a.lines.now a.code hp c.cell_on.ensures) refl, refl)

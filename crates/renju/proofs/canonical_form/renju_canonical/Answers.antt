@@ -1,10 +1,7 @@
--- `renju::canonical_form::renju_canonical` meets its contract: the number of what `canonical` answers. Assumes nothing.
-use mathlib.Core.Path.{◌∙◌, ap}
-use Rattle.renju.specs.Answers.{number_word}
-use Rattle.renju.proofs.Words.{number_word_lem}
+-- `renju::canonical_form::renju_canonical` meets its contract. Assumes nothing.
+use Rattle.renju.proofs.Named.{cells_named, list_named}
+use Rattle.renju.proofs.Words.{word_given}
 use Rattle.renju.proofs.canonical_form.renju_canonical.Goals as goal
 
 pub returns : goal.returns
-returns c =
-    let told = c.canonical_of.ensures in
-    (c.number_word.ensures ∙ ap number_word told.0 ∙ number_word_lem _ _, told.1)
+returns c = (word_given _ _ _ (list_named _ _ _ (cells_named _)) c.canonical_of.ensures.0 c.word.ensures, c.canonical_of.ensures.1)

@@ -1,8 +1,7 @@
--- `renju::changes::renju_turn_point` meets its contract: the number of what `point` answers. Assumes nothing.
-use mathlib.Core.Path.{◌∙◌, ap}
-use Rattle.renju.specs.Answers.{number_word}
-use Rattle.renju.proofs.Words.{number_word_lem}
+-- `renju::changes::renju_turn_point` meets its contract. Assumes nothing.
+use Rattle.renju.proofs.Named.{code_named, first_named, view_named}
+use Rattle.renju.proofs.Words.{word_given}
 use Rattle.renju.proofs.changes.renju_turn_point.Goals as goal
 
 pub returns : goal.returns
-returns c = c.number_word.ensures ∙ ap number_word c.turn_point.ensures ∙ number_word_lem _ _
+returns c = word_given _ _ _ (first_named _ _ (code_named _) (view_named _)) c.turn_point.ensures c.word.ensures

@@ -1,8 +1,7 @@
--- `renju::depths::renju_depth` meets its contract: depth and verdict of the cells as one number. Assumes nothing.
-use mathlib.Core.Path.{◌∙◌, ap}
-use Rattle.renju.specs.Depths.{depth_word}
-use Rattle.renju.proofs.Paired.{depth-word}
+-- `renju::depths::renju_depth` meets its contract. Assumes nothing.
+use Rattle.renju.proofs.Named.{cells_at_named}
+use Rattle.renju.proofs.Words.{word_given}
 use Rattle.renju.proofs.depths.renju_depth.Goals as goal
 
 pub returns : goal.returns
-returns c = c.depth_word.ensures ∙ ap depth_word c.strict_depth_of.ensures ∙ depth-word _ _ _
+returns c = word_given _ _ _ (cells_at_named _ _) c.depth_and_verdict.ensures c.word.ensures

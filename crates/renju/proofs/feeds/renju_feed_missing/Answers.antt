@@ -1,8 +1,7 @@
--- `renju::feeds::renju_feed_missing` meets its contract: the number of what `feed` answers. Assumes nothing.
-use mathlib.Core.Path.{◌∙◌, ap}
-use Rattle.renju.specs.Answers.{number_word}
-use Rattle.renju.proofs.Words.{number_word_lem}
+-- `renju::feeds::renju_feed_missing` meets its contract. Assumes nothing.
+use Rattle.renju.proofs.Named.{missing_named}
+use Rattle.renju.proofs.Words.{word_given}
 use Rattle.renju.proofs.feeds.renju_feed_missing.Goals as goal
 
 pub returns : goal.returns
-returns c = c.number_word.ensures ∙ ap number_word c.longer.ensures ∙ number_word_lem _ _
+returns c = word_given _ _ _ (missing_named _ _) c.longer.ensures c.word.ensures

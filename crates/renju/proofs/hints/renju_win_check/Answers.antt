@@ -1,8 +1,7 @@
--- `renju::hints::renju_win_check` meets its contract: what `hint` answers of the cells, as a word. Assumes nothing.
-use mathlib.Core.Path.{◌∙◌, ap}
-use Rattle.renju.specs.Hints.{test_word}
-use Rattle.renju.proofs.Hinted.{test_word_lem}
+-- `renju::hints::renju_win_check` meets its contract. Assumes nothing.
+use Rattle.renju.proofs.Named.{check_named}
+use Rattle.renju.proofs.Words.{word_given}
 use Rattle.renju.proofs.hints.renju_win_check.Goals as goal
 
 pub returns : goal.returns
-returns c = c.test_word.ensures ∙ ap test_word c.win_check_of.ensures ∙ test_word_lem _ _
+returns c = word_given _ _ _ (check_named _ _ _) c.win_check_of.ensures c.word.ensures

@@ -1,25 +1,19 @@
 -- `renju::listed::renju_rows_on` meets its contract: refused, or asked of the board of the cells. Assumes nothing.
-use mathlib.Core.Path.{ap}
 use mathlib.Core.List.{List}
 use Prim.Native.Nat.{ℕ}
 use Rattle.rules.specs.Numbers.{player_of, kind_of}
 use Rattle.rules.specs.Grid.{rows_on_point}
 use Rattle.board.specs.Boards.{rows_on_refusal}
-use Rattle.renju.proofs.Words.{refused-list, answered-count}
-use Rattle.renju.proofs.Asked.{refused-asked, asked, same-cells}
+use Rattle.renju.proofs.Asked.{refused_list, asked_list}
+use Rattle.renju.proofs.Named.{rows_on_named}
 use Rattle.renju.proofs.listed.renju_rows_on.Goals as goal
 
-pub returns-then-made-ne0 : goal.returns-then-made-ne0
-returns-then-made-ne0 c =
+pub returns-in-Err : goal.returns-in-Err
+returns-in-Err c =
     let a = c.args in
-    let given = c.if-made-ne0.true in
-    let told = refused-asked a.cells.now _ c.from_cells-made.ensures given (λ b. rows_on_refusal b a.code a.colour a.kind) in
-    refused-list told given 4 _ _ c.word.ensures
+    refused_list a.cells.now c.from_cells.ensures c.in-Err.is (λ b. rows_on_refusal b a.code a.colour a.kind) 4 _ _ c.refused.ensures
 
-pub returns : goal.returns
-returns c =
+pub returns-in-Ok : goal.returns-in-Ok
+returns-in-Ok c =
     let a = c.args in
-    let told = asked a.cells.now _ c.from_cells-made.ensures c.if-made-ne0.false (λ b. rows_on_refusal b a.code a.colour a.kind) in
-    let same = same-cells a.cells.now _ c.from_cells-made.ensures c.if-made-ne0.false in
-    answered-count 4 told (ap (λ (x : List ℕ). rows_on_point (player_of a.colour) (kind_of a.kind) x a.code) same) _
-    c.count_word.ensures c.rows_on.ensures
+    asked_list a.cells.now c.from_cells.ensures c.in-Ok.is (λ b. rows_on_refusal b a.code a.colour a.kind) 4 _ (λ (x : List ℕ). rows_on_point (player_of a.colour) (kind_of a.kind) x a.code) (rows_on_named _ a.code a.colour a.kind) c.rows_on.ensures c.word.ensures

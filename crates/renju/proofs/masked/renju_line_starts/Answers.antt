@@ -1,8 +1,7 @@
--- `renju::masked::renju_line_starts` meets its contract: the number of what the line answers. Assumes nothing.
-use mathlib.Core.Path.{◌∙◌, ap}
-use Rattle.renju.specs.Answers.{mask_word}
-use Rattle.renju.proofs.Words.{mask_word_lem}
+-- `renju::masked::renju_line_starts` meets its contract. Assumes nothing.
+use Rattle.renju.proofs.Named.{line_rows_named}
+use Rattle.renju.proofs.Words.{word_given}
 use Rattle.renju.proofs.masked.renju_line_starts.Goals as goal
 
 pub returns : goal.returns
-returns c = c.mask_word.ensures ∙ ap mask_word c.row_starts.ensures ∙ mask_word_lem _ _
+returns c = word_given _ _ _ (line_rows_named _ _ _) c.row_starts.ensures c.word.ensures

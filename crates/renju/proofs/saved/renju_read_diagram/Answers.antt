@@ -1,21 +1,11 @@
--- `renju::saved::renju_read_diagram` meets its contract: the cells that are read, written out, or the refusal. Assumes nothing.
-use mathlib.Core.Path.{◌≡◌, ap₂, ◌∙◌}
-use Prim.Native.Nat.{◌/◌}
+-- `renju::saved::renju_read_diagram` meets its contract. Assumes nothing.
 use native.Mathlib.Omega.{arith}
-use lib.ListN.{length}
-use Rattle.text.specs.Reading.{diagram_text_refusal, diagram_text_cells}
-use Rattle.text.proofs.Sound.{diagram-text-ok, read_out}
-use Rattle.renju.specs.Answers.{word, list_word}
+use Rattle.text.proofs.Sound.{diagram-text-ok}
+use Rattle.renju.proofs.Named.{diagram_text_named}
+use Rattle.renju.proofs.Words.{count_given}
 use Rattle.renju.proofs.saved.renju_read_diagram.Goals as goal
 
 pub returns : goal.returns
-unfolding list_word
 returns c =
-    let a = c.args in
-    let s = a.text.now in
-    let long = (diagram-text-ok s).long in
-    let count : 225 ≡ length (diagram_text_cells s) / 1 = omega arith in
-    let out = read_out c.read_diagram_cells-read.result (diagram_text_refusal s) (diagram_text_cells s) a.cells.now
-    c.read_diagram_cells-read.ensures
-    long in
-    (c.word.ensures ∙ ap₂ word (c.write_out-refused.ensures.0 ∙ out.0) count, c.write_out-refused.ensures.1 ∙ out.1)
+    let long = (diagram-text-ok c.args.text.now).long in
+    count_given _ _ _ (diagram_text_named _) (omega arith) (c.cells_out.ensures _ _ c.read_diagram_cells.ensures) c.word.ensures

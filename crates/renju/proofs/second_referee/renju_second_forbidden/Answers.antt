@@ -1,8 +1,7 @@
--- `renju::second_referee::renju_second_forbidden` meets its contract: what the second referee answers of the cells, as a word. Assumes nothing.
-use mathlib.Core.Path.{◌∙◌, ap}
-use Rattle.renju.specs.Answers.{verdict_word}
-use Rattle.renju.proofs.Words.{verdict-word}
+-- `renju::second_referee::renju_second_forbidden` meets its contract. Assumes nothing.
+use Rattle.renju.proofs.Named.{cells_forbidden_named}
+use Rattle.renju.proofs.Words.{word_given}
 use Rattle.renju.proofs.second_referee.renju_second_forbidden.Goals as goal
 
 pub returns : goal.returns
-returns c = c.verdict_word.ensures ∙ ap verdict_word c.forbidden.ensures ∙ verdict-word _ _
+returns c = word_given _ _ _ (cells_forbidden_named _ _) c.forbidden.ensures c.word.ensures

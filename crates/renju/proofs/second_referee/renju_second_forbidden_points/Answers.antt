@@ -1,7 +1,7 @@
--- `renju::second_referee::renju_second_forbidden_points` meets its contract: what the second referee answers of the cells, as a word. Assumes nothing.
-use mathlib.Core.Path.{refl}
-use Rattle.renju.proofs.Words.{answered-count}
+-- `renju::second_referee::renju_second_forbidden_points` meets its contract. Assumes nothing.
+use Rattle.renju.proofs.Named.{cells_named}
+use Rattle.renju.proofs.Words.{list_given}
 use Rattle.renju.proofs.second_referee.renju_second_forbidden_points.Goals as goal
 
 pub returns : goal.returns
-returns c = answered-count 2 refl refl _ c.count_word.ensures c.forbidden_points.ensures
+returns c = list_given 2 _ _ _ (cells_named _) c.forbidden_points.ensures c.word.ensures

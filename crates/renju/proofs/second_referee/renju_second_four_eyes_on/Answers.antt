@@ -1,7 +1,7 @@
--- `renju::second_referee::renju_second_four_eyes_on` meets its contract: what the second referee answers of the cells, as a word. Assumes nothing.
-use mathlib.Core.Path.{refl}
-use Rattle.renju.proofs.Words.{answered-count}
+-- `renju::second_referee::renju_second_four_eyes_on` meets its contract. Assumes nothing.
+use Rattle.renju.proofs.Named.{cells_for_named}
+use Rattle.renju.proofs.Words.{list_given}
 use Rattle.renju.proofs.second_referee.renju_second_four_eyes_on.Goals as goal
 
 pub returns : goal.returns
-returns c = answered-count 1 refl refl _ c.count_word.ensures c.four_eyes_on.ensures
+returns c = list_given 1 _ _ _ (cells_for_named _ _ _) c.four_eyes_on.ensures c.word.ensures

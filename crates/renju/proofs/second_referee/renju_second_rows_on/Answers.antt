@@ -1,7 +1,7 @@
--- `renju::second_referee::renju_second_rows_on` meets its contract: what the second referee answers of the cells, as a word. Assumes nothing.
-use mathlib.Core.Path.{refl}
-use Rattle.renju.proofs.Words.{answered-count}
+-- `renju::second_referee::renju_second_rows_on` meets its contract. Assumes nothing.
+use Rattle.renju.proofs.Named.{cells_rows_on_named}
+use Rattle.renju.proofs.Words.{list_given}
 use Rattle.renju.proofs.second_referee.renju_second_rows_on.Goals as goal
 
 pub returns : goal.returns
-returns c = answered-count 4 refl refl _ c.count_word.ensures c.rows_on.ensures
+returns c = list_given 4 _ _ _ (cells_rows_on_named _ _ _ _) c.rows_on.ensures c.word.ensures

@@ -1,7 +1,7 @@
--- `renju::sgf_texts::renju_from_sgf` meets its contract: the number of what `sgf` lists. Assumes nothing.
-use mathlib.Core.Path.{refl}
-use Rattle.renju.proofs.Words.{answered-count}
+-- `renju::sgf_texts::renju_from_sgf` meets its contract. Assumes nothing.
+use Rattle.renju.proofs.Named.{sgf_named}
+use Rattle.renju.proofs.Words.{list_given}
 use Rattle.renju.proofs.sgf_texts.renju_from_sgf.Goals as goal
 
 pub returns : goal.returns
-returns c = answered-count 1 refl refl _ c.count_word.ensures c.from_sgf.ensures
+returns c = list_given 1 _ _ _ (sgf_named _) c.from_sgf.ensures c.word.ensures

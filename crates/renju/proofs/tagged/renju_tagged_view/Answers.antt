@@ -1,8 +1,7 @@
--- `renju::tagged::renju_tagged_view` meets its contract: the number of what `stored` answers. Assumes nothing.
-use mathlib.Core.Path.{◌∙◌, ap}
-use Rattle.renju.specs.Answers.{number_word}
-use Rattle.renju.proofs.Words.{number_word_lem}
+-- `renju::tagged::renju_tagged_view` meets its contract. Assumes nothing.
+use Rattle.renju.proofs.Named.{record_named}
+use Rattle.renju.proofs.Words.{word_given}
 use Rattle.renju.proofs.tagged.renju_tagged_view.Goals as goal
 
 pub returns : goal.returns
-returns c = c.number_word.ensures ∙ ap number_word c.tagged_view.ensures ∙ number_word_lem _ _
+returns c = word_given _ _ _ (record_named _) c.tagged_view.ensures c.word.ensures

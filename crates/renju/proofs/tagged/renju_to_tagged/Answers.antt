@@ -1,7 +1,7 @@
--- `renju::tagged::renju_to_tagged` meets its contract: the number of what `stored` lists. Assumes nothing.
-use mathlib.Core.Path.{refl}
-use Rattle.renju.proofs.Words.{answered-count}
+-- `renju::tagged::renju_to_tagged` meets its contract. Assumes nothing.
+use Rattle.renju.proofs.Named.{tagged_named}
+use Rattle.renju.proofs.Words.{list_given}
 use Rattle.renju.proofs.tagged.renju_to_tagged.Goals as goal
 
 pub returns : goal.returns
-returns c = answered-count 1 refl refl _ c.count_word.ensures c.to_tagged.ensures
+returns c = list_given 1 _ _ _ (tagged_named _ _) c.to_tagged.ensures c.word.ensures

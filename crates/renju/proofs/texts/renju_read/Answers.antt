@@ -1,19 +1,11 @@
--- `renju::texts::renju_read` meets its contract: the cells that are read, written out, or the refusal. Assumes nothing.
-use mathlib.Core.Path.{◌≡◌, ap₂, ◌∙◌}
-use Prim.Native.Nat.{◌/◌}
+-- `renju::texts::renju_read` meets its contract. Assumes nothing.
 use native.Mathlib.Omega.{arith}
-use lib.ListN.{length}
-use Rattle.text.specs.Reading.{read_refusal, read_cells}
-use Rattle.text.proofs.Sound.{read_ok, read_out}
-use Rattle.renju.specs.Answers.{word, list_word}
+use Rattle.text.proofs.Sound.{read_ok}
+use Rattle.renju.proofs.Named.{read_named}
+use Rattle.renju.proofs.Words.{count_given}
 use Rattle.renju.proofs.texts.renju_read.Goals as goal
 
 pub returns : goal.returns
-unfolding list_word
 returns c =
-    let a = c.args in
-    let s = a.text.now in
-    let long = (read_ok s).long in
-    let count : 225 ≡ length (read_cells s) / 1 = omega arith in
-    let out = read_out c.read_cells-read.result (read_refusal s) (read_cells s) a.cells.now c.read_cells-read.ensures long in
-    (c.word.ensures ∙ ap₂ word (c.write_out-refused.ensures.0 ∙ out.0) count, c.write_out-refused.ensures.1 ∙ out.1)
+    let long = (read_ok c.args.text.now).long in
+    count_given _ _ _ (read_named _) (omega arith) (c.cells_out.ensures _ _ c.read_cells.ensures) c.word.ensures

@@ -1,8 +1,7 @@
--- `renju::texts::renju_read_point` meets its contract: the number of what `text` answers. Assumes nothing.
-use mathlib.Core.Path.{◌∙◌, ap}
-use Rattle.renju.specs.Answers.{number_word}
-use Rattle.renju.proofs.Words.{number_word_lem}
+-- `renju::texts::renju_read_point` meets its contract. Assumes nothing.
+use Rattle.renju.proofs.Named.{point_text_named}
+use Rattle.renju.proofs.Words.{word_given}
 use Rattle.renju.proofs.texts.renju_read_point.Goals as goal
 
 pub returns : goal.returns
-returns c = c.number_word.ensures ∙ ap number_word c.read_point.ensures ∙ number_word_lem _ _
+returns c = word_given _ _ _ (point_text_named _) c.read_point.ensures c.word.ensures

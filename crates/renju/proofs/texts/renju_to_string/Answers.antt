@@ -1,11 +1,13 @@
--- `renju::texts::renju_to_string` meets its contract: the text of the cells, or the refusal. Assumes nothing.
-use mathlib.Core.Path.{refl}
+-- `renju::texts::renju_to_string` meets its contract. Assumes nothing.
+use native.Mathlib.Omega.{arith}
+use Rattle.display.specs.Answers.{written}
 use Rattle.display.proofs.Sizes.{diagram-length}
-use Rattle.renju.proofs.Words.{answered-length}
+use Rattle.renju.proofs.Named.{cells_named}
+use Rattle.renju.proofs.Words.{count_given}
 use Rattle.renju.proofs.texts.renju_to_string.Goals as goal
 
 pub returns : goal.returns
+unfolding written
 returns c =
-    let a = c.args in
-    let size = diagram-length a.cells.now in
-    answered-length 1 refl refl a.out.now (rw (size)) c.length_word.ensures c.write_diagram_of.ensures
+    let long = diagram-length c.args.cells.now in
+    count_given _ _ _ (cells_named _) (omega arith) (c.of_length.ensures _ _ c.write_diagram_of.ensures.0, c.write_diagram_of.ensures.1) c.word.ensures

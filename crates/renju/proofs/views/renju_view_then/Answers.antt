@@ -1,8 +1,7 @@
--- `renju::views::renju_view_then` meets its contract: the number of what `point` answers. Assumes nothing.
-use mathlib.Core.Path.{◌∙◌, ap}
-use Rattle.renju.specs.Answers.{number_word}
-use Rattle.renju.proofs.Words.{number_word_lem}
+-- `renju::views::renju_view_then` meets its contract. Assumes nothing.
+use Rattle.renju.proofs.Named.{first_named, view_named}
+use Rattle.renju.proofs.Words.{word_given}
 use Rattle.renju.proofs.views.renju_view_then.Goals as goal
 
 pub returns : goal.returns
-returns c = c.number_word.ensures ∙ ap number_word c.view_then.ensures ∙ number_word_lem _ _
+returns c = word_given _ _ _ (first_named _ _ (view_named _) (view_named _)) c.view_then.ensures c.word.ensures

@@ -1,36 +1,29 @@
--- `report::lines::line_into` meets its contract: the point, a space, the kind and byte 10, one behind the other. Assumes nothing.
-use mathlib.Core.List.{[], ◌∷◌}
+-- `report::lines::line_into` meets its contract: there is room for each part behind those before. Assumes nothing.
+use mathlib.Core.Path.{ap, ◌∙◌}
+use mathlib.Core.List.{List, [], ◌∷◌, ◌++◌}
+use Prim.Native.Nat.{ℕ}
 use native.Mathlib.Omega.{arith}
-use Rattle.lent.proofs.Laws.{wrote-same}
-use Rattle.text.specs.Bytes.{newline, blank}
-use Rattle.display.proofs.Writing.{then, put}
-use Rattle.display.proofs.Sizes.{point-short}
-use Rattle.report.specs.Listing.{point_line}
-use Rattle.report.proofs.Words.{kind-short}
+use lib.ListN.{length, length-append}
+use Rattle.text.specs.Bytes.{blank}
+use Rattle.display.specs.Texts.{point_text}
+use Rattle.report.proofs.Words.{point_few, kind_few}
 use Rattle.report.proofs.lines.line_into.Goals as goal
 
-pub kind_into-c-requires : goal.kind_into-c-requires
-kind_into-c-requires c =
-    let x = c.point_into-a.ensures in
-    let l = wrote-same x in
-    let e = x.place in
-    let short = point-short c.args.code in
-    let y = put (blank ∷ []) c.keep-b.ensures 1 (omega arith) (omega (arith, c.requires)) in
-    let m = wrote-same y in
-    let f = y.place in
-    omega (arith, c.requires)
+pub put-requires-3 : goal.put-requires-3
+put-requires-3 c =
+    let a = c.args in
+    let point = c.as_slice.ensures.value ∙ c.point_label.ensures in
+    let one = ap length (c.put.ensures ∙ ap (λ (l : List ℕ). a.text.now ++ l) point) ∙ length-append a.text.now (point_text a.code) in
+    let two = ap length c.put-2.ensures ∙ length-append c.put.new.text (blank ∷ []) in
+    let kind = ap length c.kind_word.ensures in
+    omega (arith, point_few a.code, kind_few a.kind, c.requires)
 
-pub returns : goal.returns
-unfolding point_line
-returns c =
-    let x = c.point_into-a.ensures in
-    let l = wrote-same x in
-    let e = x.place in
-    let short = point-short c.args.code in
-    let y = put (blank ∷ []) c.keep-b.ensures 1 (omega arith) (omega (arith, c.requires)) in
-    let m = wrote-same y in
-    let f = y.place in
-    let z = c.kind_into-c.ensures in
-    let o = wrote-same z in
-    let g = z.place in
-    then (then (then x y) z) (put (newline ∷ []) c.keep.ensures 1 (omega arith) (omega (arith, c.requires, kind-short c.args.kind)))
+pub put-requires-4 : goal.put-requires-4
+put-requires-4 c =
+    let a = c.args in
+    let point = c.as_slice.ensures.value ∙ c.point_label.ensures in
+    let one = ap length (c.put.ensures ∙ ap (λ (l : List ℕ). a.text.now ++ l) point) ∙ length-append a.text.now (point_text a.code) in
+    let two = ap length c.put-2.ensures ∙ length-append c.put.new.text (blank ∷ []) in
+    let kind = ap length c.kind_word.ensures in
+    let three = ap length c.put-3.ensures ∙ length-append c.put-2.new.text c.kind_word.result.now in
+    omega (arith, point_few a.code, kind_few a.kind, c.requires)

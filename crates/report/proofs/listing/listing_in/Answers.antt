@@ -1,18 +1,13 @@
--- `report::listing::listing_in` meets its contract: its ways are the cases of the definition. Assumes nothing.
-use Rattle.lent.proofs.Laws.{held-as}
-use Rattle.report.proofs.Listed.{listing-refused, listing-read, read-good}
+-- `report::listing::listing_in` meets its contract: the refusal, or the list of the board. Assumes nothing.
+use mathlib.Core.Path.{◌∙◌}
+use Rattle.report.proofs.Listed.{listing-refused, read-good, listing-read}
 use Rattle.report.proofs.listing.listing_in.Goals as goal
 
-pub returns-then-read-ne0 : goal.returns-then-read-ne0
-returns-then-read-ne0 c =
-    let s = c.args.text.now in
-    held-as 3840 c.refused_listing.ensures (listing-refused s _ c.read_board-read.ensures c.if-read-ne0.true)
-
 pub board_listing-requires : goal.board_listing-requires
-board_listing-requires c =
-    read-good c.args.text.now _ c.read_board-read.ensures c.if-read-ne0.false
+board_listing-requires c = read-good c.args.text.now c.read_board.ensures c.in-Ok.is
 
-pub returns : goal.returns
-returns c =
-    let s = c.args.text.now in
-    held-as 3840 c.board_listing.ensures (listing-read s _ c.read_board-read.ensures c.if-read-ne0.false)
+pub returns-in-Ok : goal.returns-in-Ok
+returns-in-Ok c = c.board_listing.ensures ∙ listing-read c.args.text.now c.read_board.ensures c.in-Ok.is
+
+pub returns-in-Err : goal.returns-in-Err
+returns-in-Err c = c.refused_listing.ensures ∙ listing-refused c.args.text.now c.read_board.ensures c.in-Err.is

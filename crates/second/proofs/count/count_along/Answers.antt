@@ -1,22 +1,30 @@
 -- `second::count::count_along` meets its contract: after j turns the starts below j are seen. Assumes nothing.
-use mathlib.Core.Path.{◌≡◌}
+use mathlib.Core.Path.{◌≡◌, sym, ◌∙◌}
 use native.Mathlib.Omega.{arith}
-use borrow.Author.Tests.{lt-ltb, le-ltb}
-use Rattle.second.proofs.Tallied.{seen-far, seen_all}
+use Rattle.rules.specs.Grid.{rows_through}
+use Rattle.rules.specs.declared.Player.TheVariants.{Black}
+use Rattle.second.proofs.Tallied.{seen_far, seen_end}
 use Rattle.second.proofs.count.count_along.Goals as goal
 
-pub returns-then-found-first : goal.returns-then-found-first
-returns-then-found-first c = (
-  seen-far _ c.loop-j.j c.loop-j.first c.loop-j-test.true c.loop-j.invariant.1 _ c.is_through-found.ensures c.if-found-first.true,
-  omega arith,
-)
+pub returns-then-j-i-ge2 : goal.returns-then-j-i-ge2
+returns-then-j-i-ge2 c =
+    let a = c.args in
+    let s = rows_through Black a.kind a.board.now a.code a.d in (
+      seen_far s c.loop-j.j c.in-Some.i c.loop-j-test.true (rw c.in-Some.is at c.loop-j.invariant)
+          (sym c.is_through.ensures ∙ c.if-is_through.true) c.if-j-i-ge2.true,
+      omega arith,
+    )
 
-pub returns-then-first-lt16 : goal.returns-then-first-lt16
-returns-then-first-lt16 c =
+pub returns-then-is_some : goal.returns-then-is_some
+returns-then-is_some c =
+    let a = c.args in
+    let s = rows_through Black a.kind a.board.now a.code a.d in
     let e : c.loop-j.j ≡ 16 = omega arith in
-    (rw (lt-ltb c.loop-j.first 16 c.if-first-lt16.true) at (seen_all _ c.loop-j.first c.loop-j.j e c.loop-j.invariant.1), omega arith)
+    (rw (sym c.is_some.ensures ∙ c.if-is_some.true) at (seen_end s c.loop-j.first (rw e at c.loop-j.invariant)), omega arith)
 
-pub returns-else-first-lt16 : goal.returns-else-first-lt16
-returns-else-first-lt16 c =
+pub returns-else-is_some : goal.returns-else-is_some
+returns-else-is_some c =
+    let a = c.args in
+    let s = rows_through Black a.kind a.board.now a.code a.d in
     let e : c.loop-j.j ≡ 16 = omega arith in
-    (rw (le-ltb c.loop-j.first 16 c.if-first-lt16.false) at (seen_all _ c.loop-j.first c.loop-j.j e c.loop-j.invariant.1), omega arith)
+    (rw (sym c.is_some.ensures ∙ c.if-is_some.false) at (seen_end s c.loop-j.first (rw e at c.loop-j.invariant)), omega arith)

@@ -1,29 +1,28 @@
--- `second::front::four_eyes_on` meets its contract: refused, or the eyes are collected, then handed out. Assumes nothing.
-use mathlib.Core.Path.{sym, ◌∙◌}
+-- `second::front::four_eyes_on` meets its contract: refused, or the list is collected, then handed out. Assumes nothing.
+use mathlib.Core.Path.{ap, sym, ◌∙◌}
 use native.Mathlib.Omega.{arith}
 use borrow.Author.Rules.{rules}
-use Rattle.lent.proofs.Laws.{held-as, held-le, turned_down}
-use Rattle.cells.proofs.Kept.{handed-codes}
+use lib.ListN.{length}
+use Rattle.rules.proofs.Refusals.{unrefused}
+use Rattle.lent.proofs.Handed.{handed, turned_down}
 use Rattle.second.proofs.Opened.{for-open}
 use Rattle.second.proofs.front.four_eyes_on.Goals as goal
 
-pub returns-then-refused-ne0 : goal.returns-then-refused-ne0
-returns-then-refused-ne0 c = turned_down 1 _ _ c.colour_refusal_at-refused.ensures c.if-refused-ne0.true
+pub returns-in_err-colour_refusal_at : goal.returns-in_err-colour_refusal_at
+returns-in_err-colour_refusal_at c = turned_down 1 _ _ _ (sym c.colour_refusal_at.ensures ∙ c.in_err-colour_refusal_at.was) (search rules)
 
 pub board_of-board-requires : goal.board_of-board-requires
 board_of-board-requires c =
     let a = c.args in
-    (for-open a.cells.now a.code a.colour (sym c.colour_refusal_at-refused.ensures ∙ c.if-refused-ne0.false)).0
+    (for-open a.cells.now a.code a.colour (unrefused _ c.colour_refusal_at.ensures c.in_ok-colour_refusal_at.was)).0
 
 pub four_eyes-found-requires : goal.four_eyes-found-requires
 four_eyes-found-requires c =
     let a = c.args in
-    (for-open a.cells.now a.code a.colour (sym c.colour_refusal_at-refused.ensures ∙ c.if-refused-ne0.false)).1
-
-pub overflow_cast-found : goal.overflow_cast-found
-overflow_cast-found c = record { fits = omega (arith, held-le 60 c.four_eyes-found.ensures (search rules)) }
+    (for-open a.cells.now a.code a.colour (unrefused _ c.colour_refusal_at.ensures c.in_ok-colour_refusal_at.was)).1
 
 pub returns : goal.returns
 returns c =
-    handed-codes _ _ c.colour_refusal_at-refused.ensures 60
-    (held-as 60 c.four_eyes-found.ensures (rw (c.or_white.ensures, c.board_of-board.ensures))) c.hand_out.ensures
+    let listed = c.as_slice.ensures.value in
+    handed 1 _ _ _ (unrefused _ c.colour_refusal_at.ensures c.in_ok-colour_refusal_at.was) (listed ∙ c.four_eyes-found.ensures ∙ rw (c.or_white.ensures, c.board_of-board.ensures))
+    (omega (arith, c.len.ensures.value, ap length listed)) c.hand_out.ensures

@@ -1,29 +1,28 @@
--- `second::front::rows_on` meets its contract: refused, or the rows are collected, then handed out. Assumes nothing.
-use mathlib.Core.Path.{sym, ◌∙◌}
+-- `second::front::rows_on` meets its contract: refused, or the list is collected, then handed out. Assumes nothing.
+use mathlib.Core.Path.{ap, sym, ◌∙◌}
 use native.Mathlib.Omega.{arith}
 use borrow.Author.Rules.{rules}
-use Rattle.lent.proofs.Laws.{held-as, held-le, turned_down, handed}
+use lib.ListN.{length}
+use Rattle.rules.proofs.Refusals.{unrefused}
+use Rattle.lent.proofs.Handed.{handed, turned_down}
 use Rattle.second.proofs.Opened.{rows-on-open}
 use Rattle.second.proofs.front.rows_on.Goals as goal
 
-pub returns-then-refused-ne0 : goal.returns-then-refused-ne0
-returns-then-refused-ne0 c = turned_down 4 _ _ c.rows_refusal_at-refused.ensures c.if-refused-ne0.true
+pub returns-in_err-rows_refusal_at : goal.returns-in_err-rows_refusal_at
+returns-in_err-rows_refusal_at c = turned_down 4 _ _ _ (sym c.rows_refusal_at.ensures ∙ c.in_err-rows_refusal_at.was) (search rules)
 
 pub board_of-board-requires : goal.board_of-board-requires
 board_of-board-requires c =
     let a = c.args in
-    (rows-on-open a.cells.now a.code a.colour a.kind (sym c.rows_refusal_at-refused.ensures ∙ c.if-refused-ne0.false)).0
+    (rows-on-open a.cells.now a.code a.colour a.kind (unrefused _ c.rows_refusal_at.ensures c.in_ok-rows_refusal_at.was)).0
 
 pub point_rows-found-requires : goal.point_rows-found-requires
 point_rows-found-requires c =
     let a = c.args in
-    (rows-on-open a.cells.now a.code a.colour a.kind (sym c.rows_refusal_at-refused.ensures ∙ c.if-refused-ne0.false)).1
-
-pub overflow_cast-found : goal.overflow_cast-found
-overflow_cast-found c = record { fits = omega (arith, held-le 240 c.point_rows-found.ensures (search rules)) }
+    (rows-on-open a.cells.now a.code a.colour a.kind (unrefused _ c.rows_refusal_at.ensures c.in_ok-rows_refusal_at.was)).1
 
 pub returns : goal.returns
 returns c =
-    handed 4 _ _ c.rows_refusal_at-refused.ensures 240
-    (held-as 240 c.point_rows-found.ensures (rw (c.or_white.ensures, c.or_overlined.ensures, c.board_of-board.ensures)))
-    c.hand_out.ensures
+    let listed = c.as_slice.ensures.value in
+    handed 4 _ _ _ (unrefused _ c.rows_refusal_at.ensures c.in_ok-rows_refusal_at.was) (listed ∙ c.point_rows-found.ensures ∙ rw (c.or_white.ensures, c.or_overlined.ensures, c.board_of-board.ensures))
+    (omega (arith, c.len.ensures.value, ap length listed)) c.hand_out.ensures

@@ -4,5 +4,5 @@ use Rattle.second.proofs.line.cell_no.Goals as goal
 
 pub returns : goal.returns
 returns c =
-    simp (c.by_direction.ensures, c.least.ensures, c.least-2.ensures)
+    simp (c.by_direction.ensures, c.min.ensures, c.min-2.ensures)
     (back-cells c.args.d c.args.code c.requires.0 c.requires.1)

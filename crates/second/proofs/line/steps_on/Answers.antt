@@ -4,4 +4,4 @@ use Rattle.second.proofs.line.steps_on.Goals as goal
 
 pub returns : goal.returns
 unfolding steps_on
-returns c = simp (c.by_direction.ensures, c.least.ensures, c.least-2.ensures)
+returns c = simp (c.by_direction.ensures, c.min.ensures, c.min-2.ensures)

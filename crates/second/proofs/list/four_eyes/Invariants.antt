@@ -1,12 +1,8 @@
--- `second::list::four_eyes` meets its contract: after d turns the first d directions are done. Assumes nothing.
-use Prim.Native.Nat.{◌-◌, ◌≤◌}
+-- `second::list::four_eyes` meets its contract: after d turns the lines of the first d directions are done. Assumes nothing.
+use mathlib.Core.Path.{◌≡◌}
 use Rattle.rules.specs.Tools.{gather}
 use Rattle.rules.specs.Grid.{eyes_in}
-use Rattle.lent.specs.Lists.{zeros, Wrote}
 use Rattle.second.proofs.list.four_eyes.Given as goal
 
 abbrev pub invariant-loop-d : goal.invariant-loop-d
-invariant-loop-d l = (l.d ≤ 4) × Wrote (zeros 60) 0 (gather l.d (eyes_in l.player l.board l.code)) l.bytes l.n
-
-abbrev pub decreases-loop-d : goal.decreases-loop-d
-decreases-loop-d l = 4 - l.d
+invariant-loop-d l = l.list ≡ gather l.d (eyes_in l.player l.board l.code)

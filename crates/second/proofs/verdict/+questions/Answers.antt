@@ -4,12 +4,11 @@ use mathlib.Core.Path.{◌≡◌, refl, ap, sym, ◌∙◌}
 use mathlib.Core.List.{List}
 use Prim.Native.Nat.{ℕ}
 use native.Mathlib.Omega.{arith}
-use borrow.Author.Tests.{lt-ltb, le-ltb}
 use Rattle.rules.specs.Forbidden.{real_threes, strict_of, plain_of, plain_with, is_overline, is_double_four, is_double_three}
 use Rattle.rules.proofs.Logic.{true-T}
 use Rattle.rules.proofs.Gap.{eye-free, five-not-real, real-told}
 use Rattle.second.specs.Count.{row_count, rows_along}
-use Rattle.second.proofs.Tallied.{seen-far, seen_all}
+use Rattle.second.proofs.Tallied.{seen_far, seen_end}
 use Rattle.second.proofs.Asked.{some-true, some-false, more-true, more-false, more-is, asked-five, asked-plain}
 use Rattle.second.proofs.Asked.{five-true, five-false, zero-there}
 use Rattle.second.proofs.Asked.{with-ok, with-fewer, written_back}
@@ -31,29 +30,30 @@ count_real-returns t c =
       c.count_real_along-descending.ensures.2 ∙ g,
     )
 
-pub count_real_along-returns-then-found-first : goal.count_real_along-returns-then-found-first
-count_real_along-returns-then-found-first t c =
-    let r = c.is_real-found.ensures in
+pub count_real_along-returns-then-j-i-ge2 : goal.count_real_along-returns-then-j-i-ge2
+count_real_along-returns-then-j-i-ge2 t c =
+    let r = c.is_real.ensures in
     let a = c.args in
     let e = c.loop-j.invariant.0 in
     let is = r.0 ∙ ap (λ (x : List ℕ). real_threes strict_of x a.code a.d c.loop-j.j) e in (
-      seen-far _ c.loop-j.j c.loop-j.first c.loop-j-test.true c.loop-j.invariant.2 _ is c.if-found-first.true,
+      seen_far _ c.loop-j.j c.in-Some.i c.loop-j-test.true (rw c.in-Some.is at c.loop-j.invariant.1) (sym is ∙ c.if-is_real.true)
+          c.if-j-i-ge2.true,
       omega arith,
       r.1 ∙ e,
     )
 
-pub count_real_along-returns-then-first-lt16 : goal.count_real_along-returns-then-first-lt16
-count_real_along-returns-then-first-lt16 t c =
+pub count_real_along-returns-then-is_some : goal.count_real_along-returns-then-is_some
+count_real_along-returns-then-is_some t c =
     let e : c.loop-j.j ≡ 16 = omega arith in (
-      rw (lt-ltb c.loop-j.first 16 c.if-first-lt16.true) at (seen_all _ c.loop-j.first c.loop-j.j e c.loop-j.invariant.2),
+      rw (sym c.is_some.ensures ∙ c.if-is_some.true) at (seen_end _ c.loop-j.first (rw e at c.loop-j.invariant.1)),
       omega arith,
       c.loop-j.invariant.0,
     )
 
-pub count_real_along-returns-else-first-lt16 : goal.count_real_along-returns-else-first-lt16
-count_real_along-returns-else-first-lt16 t c =
+pub count_real_along-returns-else-is_some : goal.count_real_along-returns-else-is_some
+count_real_along-returns-else-is_some t c =
     let e : c.loop-j.j ≡ 16 = omega arith in (
-      rw (le-ltb c.loop-j.first 16 c.if-first-lt16.false) at (seen_all _ c.loop-j.first c.loop-j.j e c.loop-j.invariant.2),
+      rw (sym c.is_some.ensures ∙ c.if-is_some.false) at (seen_end _ c.loop-j.first (rw e at c.loop-j.invariant.1)),
       omega arith,
       c.loop-j.invariant.0,
     )
@@ -131,7 +131,7 @@ plain-returns-then-count_rows-ge1 t c =
 pub plain-returns-then-count_rows-ge2 : goal.plain-returns-then-count_rows-ge2
 unfolding plain_of plain_with is_overline is_double_four
 plain-returns-then-count_rows-ge2 t c =
-    (rw (some-false _ c.count_rows.ensures c.if-count_rows-ge1.false, more-true _ c.count_rows-2.ensures c.if-count_rows-ge2.true), refl)
+    (rw (some-false _ c.count_rows.ensures c.if-count_rows-ge1.false, more-true _ c.count_rows-else-count_rows-ge1.ensures c.if-count_rows-ge2.true), refl)
 
 pub plain-returns-then-is_double_three : goal.plain-returns-then-is_double_three
 unfolding plain_of plain_with is_overline is_double_four
@@ -139,19 +139,19 @@ plain-returns-then-is_double_three t c =
     let r = c.is_double_three.ensures in (
       rw (
         some-false _ c.count_rows.ensures c.if-count_rows-ge1.false,
-        more-false _ c.count_rows-2.ensures c.if-count_rows-ge2.false,
+        more-false _ c.count_rows-else-count_rows-ge1.ensures c.if-count_rows-ge2.false,
         sym r.0 ∙ c.if-is_double_three.true,
       ),
       r.1,
     )
 
-pub plain-returns : goal.plain-returns
+pub plain-returns-else-is_double_three : goal.plain-returns-else-is_double_three
 unfolding plain_of plain_with is_overline is_double_four
-plain-returns t c =
+plain-returns-else-is_double_three t c =
     let r = c.is_double_three.ensures in (
       rw (
         some-false _ c.count_rows.ensures c.if-count_rows-ge1.false,
-        more-false _ c.count_rows-2.ensures c.if-count_rows-ge2.false,
+        more-false _ c.count_rows-else-count_rows-ge1.ensures c.if-count_rows-ge2.false,
         sym r.0 ∙ c.if-is_double_three.false,
       ),
       r.1,

@@ -1,7 +1,7 @@
 -- The six functions of the cycle meet their contracts. What falls at each call is six times the number of empty points, and a little: on
 -- one board `count_real` 6, `count_real_along` 5, `is_real` 4, `strict_by` 3, `plain` 2, `is_double_three` 1. Assumes nothing.
 use mathlib.Core.Path.{◌≡◌}
-use Prim.Native.Nat.{◌+◌, ◌-◌, ◌*◌, ◌≤◌}
+use Prim.Native.Nat.{◌+◌, ◌*◌}
 use Rattle.rules.specs.Grid.{empties}
 use Rattle.rules.specs.Forbidden.{real_threes, strict_of}
 use Rattle.second.proofs.Tallied.{Seen}
@@ -26,8 +26,4 @@ abbrev pub decreases-strict_by : goal.decreases-strict_by
 decreases-strict_by l = 6 * empties l.board.now + 3
 
 abbrev pub invariant-count_real_along-loop-j : goal.invariant-count_real_along-loop-j
-invariant-count_real_along-loop-j l = (l.board ≡ l.initial.board) × (l.j ≤ 16) × Seen
-    (real_threes strict_of l.initial.board l.code l.d) l.j l.first
-
-abbrev pub decreases-count_real_along-loop-j : goal.decreases-count_real_along-loop-j
-decreases-count_real_along-loop-j l = 16 - l.j
+invariant-count_real_along-loop-j l = (l.board ≡ l.initial.board) × Seen (real_threes strict_of l.initial.board l.code l.d) l.j l.first

@@ -9,22 +9,21 @@ use Rattle.second.proofs.window.stones_in.Goals as goal
 use Rattle.second.proofs.window.stones_in.Goals.{then-has_stone, else-has_stone}
 
 pub loop-k-init : goal.loop-k-init
-loop-k-init c = (omega arith, omega arith, count_none _ _)
+loop-k-init c = (omega arith, count_none _ _)
 
 pub loop-k-preserved : goal.loop-k-preserved
 loop-k-preserved c =
     let a = c.args in
     let own = stone_at a.player a.board.now a.d (line_no a.d a.code) in
     let k = c.loop-k.k in
-    let e = c.loop-k.invariant.2 in
+    let e = c.loop-k.invariant.1 in
     elim c.if-has_stone.branch [
       | then-has_stone w ↦ (
-        omega arith,
         omega arith,
         w.n-is ∙ ap (λ (x : ℕ). x + 1) e ∙ count-one own a.j k (sym c.has_stone.ensures ∙ w.if-has_stone.true),
       )
       | else-has_stone w ↦
-          (omega arith, omega arith, w.n-is ∙ e ∙ count_same own a.j k (sym c.has_stone.ensures ∙ w.if-has_stone.false))
+          (omega arith, w.n-is ∙ e ∙ count_same own a.j k (sym c.has_stone.ensures ∙ w.if-has_stone.false))
     ]
 
 pub returns : goal.returns
@@ -32,4 +31,4 @@ returns c =
     let a = c.args in
     let own = stone_at a.player a.board.now a.d (line_no a.d a.code) in
     let e : c.loop-k.k ≡ 5 = omega arith in
-    c.loop-k.invariant.2 ∙ ap (count_to own a.j) e ∙ count-all own a.j
+    c.loop-k.invariant.1 ∙ ap (count_to own a.j) e ∙ count-all own a.j

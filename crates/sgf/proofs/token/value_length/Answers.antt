@@ -11,9 +11,9 @@ returns-then-end-s c =
     let e = c.find-end.ensures in
     rw (has-yes close_bracket s (omega arith)) (omega arith)
 
-pub returns : goal.returns
+pub returns-else-end-s : goal.returns-else-end-s
 unfolding value_length
-returns c =
+returns-else-end-s c =
     let s = c.args.s.now in
     let e = c.find-end.ensures in
     rw (has_no close_bracket s (omega arith))

@@ -3,5 +3,4 @@ use Rattle.stored.proofs.Records.{tagged-old}
 use Rattle.stored.proofs.front.old_to_tagged.Goals as goal
 
 pub returns : goal.returns
-returns c =
-    rw (tagged-old c.args.moves.now) at c.to_tagged.ensures
+returns c = rw (tagged-old c.args.moves.now) at c.to_tagged.ensures

@@ -1,29 +1,26 @@
--- `stored::record::record_of` meets its contract: both fields, one behind the other, in a buffer with room for them. Assumes nothing.
-use mathlib.Core.List.{[], ◌∷◌}
+-- `stored::record::record_of` meets its contract: both fields, one behind the other, in a list with room for them. Assumes nothing.
+use mathlib.Core.Path.{ap, ◌∙◌}
+use mathlib.Core.List.{List, [], ◌∷◌, ◌++◌}
+use Prim.Native.Nat.{ℕ}
 use native.Mathlib.Omega.{arith}
-use Rattle.lent.specs.Lists.{zeros}
-use Rattle.lent.proofs.Laws.{length-zeros, wrote-same, wrote-all, wrote-held}
+use lib.ListN.{length}
 use Rattle.stored.specs.Fields.{field}
 use Rattle.stored.specs.Records.{view_tag, moves_tag, record_of}
-use Rattle.stored.proofs.Records.{record-length}
 use Rattle.stored.proofs.record.record_of.Goals as goal
 
-pub keep_field-len-requires : goal.keep_field-len-requires
-unfolding zeros field
-keep_field-len-requires c =
-    let w = c.keep_field-n.ensures in
-    let place = w.place in
-    let same = wrote-same w in
-    let long = length-zeros 232 in
-    let few = c.requires in
-    (omega arith, omega arith)
+pub keep_field-requires : goal.keep_field-requires
+keep_field-requires c = (omega arith, omega (arith, ap length c.new-made.ensures))
+
+pub keep_field-requires-2 : goal.keep_field-requires-2
+unfolding field
+keep_field-requires-2 c =
+    let front : List ℕ = field view_tag (c.args.view ∷ []) in
+    let first = c.keep_field.ensures ∙ ap (λ (x : List ℕ). x ++ front) c.new-made.ensures in
+    (omega (arith, c.requires), omega (arith, c.requires, ap length first))
 
 pub returns : goal.returns
-unfolding zeros record_of
+unfolding record_of
 returns c =
-    let moves = c.args.moves.now in
-    let few = c.requires in
-    let long = record-length c.args.view moves in
-    wrote-held 232 (record_of c.args.view moves) _ _
-    (wrote-all (zeros 232) 0 (field view_tag (c.args.view ∷ [])) (field moves_tag moves) _ _ _ _ c.keep_field-n.ensures c.keep_field-len.ensures)
-    (omega arith)
+    let front : List ℕ = field view_tag (c.args.view ∷ []) in
+    let first = c.keep_field.ensures ∙ ap (λ (x : List ℕ). x ++ front) c.new-made.ensures in
+    c.keep_field-2.ensures ∙ ap (λ (x : List ℕ). x ++ field moves_tag c.args.moves.now) first

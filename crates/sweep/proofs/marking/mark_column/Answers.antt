@@ -13,8 +13,5 @@ loop-y-preserved c =
     let a = c.args in
     let y = c.loop-y.y in
     let f = has_value a.cells.now a.value in
-    let next : code_of a.x y + 1 ≡ code_of a.x (y + 1) = omega arith in (
-      omega arith,
-      marks-more a.x y (omega arith) (omega arith) f c.loop-y.invariant.1 c.mark.ensures
-          ∙ ap (λ (n : ℕ). marks (codes_below n f)) next,
-    )
+    let next : code_of a.x y + 1 ≡ code_of a.x (y + 1) = omega arith in
+    marks-more a.x y (omega arith) (omega arith) f c.loop-y.invariant c.mark.ensures ∙ ap (λ (n : ℕ). marks (codes_below n f)) next

@@ -9,11 +9,11 @@ use Rattle.sweep.proofs.marking.marks_of.Goals as goal
 
 pub loop-x-init : goal.loop-x-init
 unfolding zeros
-loop-x-init c = (omega arith, codes-none _)
+loop-x-init c = codes-none _
 
 pub returns : goal.returns
 returns c =
     let a = c.args in
     let f = has_value a.cells.now a.value in
     let last : 15 * c.loop-x.x ≡ 225 = omega arith in
-    c.loop-x.invariant.1 ∙ ap (λ (n : ℕ). marks (codes_below n f)) last ∙ codes_all f
+    c.loop-x.invariant ∙ ap (λ (n : ℕ). marks (codes_below n f)) last ∙ codes_all f

@@ -1,18 +1,9 @@
--- `sweep::marking::whole` meets its contract: after each turn the rows before row i are whole. Assumes nothing.
-use native.Mathlib.Omega.{arith}
-use Rattle.lent.specs.Lists.{zeros}
-use Rattle.sweep.specs.Marks.{every_point}
-use Rattle.sweep.proofs.Marks.{rows_start, rows_more, rows_end, full-row}
+-- `sweep::marking::whole` meets its contract: the masks of the board's rows are whole. Assumes nothing.
+use Rattle.rules.specs.Tools.{tab}
+use Rattle.rules.specs.Bit.{mask_of}
+use Rattle.sweep.specs.Marks.{marks, row_mask, on_board, every_point}
 use Rattle.sweep.proofs.marking.whole.Goals as goal
 
-pub loop-i-init : goal.loop-i-init
-unfolding zeros
-loop-i-init c = (omega arith, omega arith, rows_start every_point)
-
-pub loop-i-preserved : goal.loop-i-preserved
-loop-i-preserved c =
-    let s = c.loop-i in
-    (omega arith, omega arith, rows_more every_point s.i (omega arith) s.invariant.2 (full-row s.i (omega arith) (omega arith)))
-
 pub returns : goal.returns
-returns c = rows_end every_point c.loop-i.i (omega arith) (omega arith) c.loop-i.invariant.2
+unfolding marks row_mask on_board every_point tab mask_of
+returns c = rw (c.fill.ensures.after (λ y e. e))

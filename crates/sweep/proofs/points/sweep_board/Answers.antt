@@ -25,30 +25,27 @@ rows_along-d-requires c =
 pub loop-i-init : goal.loop-i-init
 unfolding zeros
 loop-i-init c =
-    (omega arith, omega arith, rows_start _, c.rows_along-v.ensures, c.rows_along-h.ensures, c.rows_along-a.ensures, c.rows_along-d.ensures)
+    (rows_start _, c.rows_along-v.ensures, c.rows_along-h.ensures, c.rows_along-a.ensures, c.rows_along-d.ensures)
 
 pub some_at-overline-requires : goal.some_at-overline-requires
 some_at-overline-requires c =
-    let (low, high, done, v, h, a, d) = c.loop-i.invariant in
-    (as-marked _ v.overs, as-marked _ h.overs, as-marked _ a.overs, as-marked _ d.overs, low, c.loop-i-test.true)
+    let (done, v, h, a, d) = c.loop-i.invariant in
+    (as-marked _ v.overs, as-marked _ h.overs, as-marked _ a.overs, as-marked _ d.overs, omega arith, omega arith)
 
 pub more_at-double_four-requires : goal.more_at-double_four-requires
 more_at-double_four-requires c =
-    let (low, high, done, v, h, a, d) = c.loop-i.invariant in
-    (as-marked _ v.swords, as-marked _ h.swords, as-marked _ a.swords, as-marked _ d.swords, low, c.loop-i-test.true)
+    let (done, v, h, a, d) = c.loop-i.invariant in
+    (as-marked _ v.swords, as-marked _ h.swords, as-marked _ a.swords, as-marked _ d.swords, omega arith, omega arith)
 
 pub more_at-double_two-requires : goal.more_at-double_two-requires
 more_at-double_two-requires c =
-    let (low, high, done, v, h, a, d) = c.loop-i.invariant in
-    (as-marked _ v.twos, as-marked _ h.twos, as-marked _ a.twos, as-marked _ d.twos, low, c.loop-i-test.true)
+    let (done, v, h, a, d) = c.loop-i.invariant in
+    (as-marked _ v.twos, as-marked _ h.twos, as-marked _ a.twos, as-marked _ d.twos, omega arith, omega arith)
 
 pub loop-i-preserved : goal.loop-i-preserved
 loop-i-preserved c =
     let i = c.loop-i.i in
-    let more = c.loop-i-test.true in
-    let (low, high, done, v, h, a, d) = c.loop-i.invariant in (
-      omega arith,
-      omega arith,
+    let (done, v, h, a, d) = c.loop-i.invariant in (
       rows_more _ i (omega arith) done
           (asked-row c.args.cells.now c.marks_of-blacks.ensures c.marks_of-whites.ensures v h a d c.requires
           c.whole-all.ensures i (omega arith) c.some_at-overline.type_inv c.more_at-double_four.type_inv c.more_at-double_two.type_inv c.some_at-overline.ensures
@@ -60,4 +57,4 @@ loop-i-preserved c =
     )
 
 pub returns : goal.returns
-returns c = rows_end _ c.loop-i.i (omega arith) (omega arith) c.loop-i.invariant.2
+returns c = rows_end _ c.loop-i.i (omega arith) (omega arith) c.loop-i.invariant.0

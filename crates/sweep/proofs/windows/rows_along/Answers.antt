@@ -9,14 +9,14 @@ use Rattle.sweep.proofs.windows.rows_along.Goals as goal
 
 pub loop-i-init : goal.loop-i-init
 unfolding zeros
-loop-i-init c = (omega arith, omega arith, rows_start _, rows_start _, c.windows_in-w.ensures)
+loop-i-init c = (rows_start _, rows_start _, c.windows_in-w.ensures)
 
 pub both-requires : goal.both-requires
-both-requires c = (as-marked _ c.loop-i.invariant.4.twos, search rules, search rules, search rules)
+both-requires c = (as-marked _ c.loop-i.invariant.2.twos, search rules, search rules, search rules)
 
 pub both-requires-in-loop-i : goal.both-requires-in-loop-i
 both-requires-in-loop-i c =
-    (as-marked _ c.loop-i.invariant.4.fours, search rules, search rules, search rules)
+    (as-marked _ c.loop-i.invariant.2.fours, search rules, search rules, search rules)
 
 pub loop-i-preserved : goal.loop-i-preserved
 loop-i-preserved c =
@@ -24,9 +24,7 @@ loop-i-preserved c =
     let w = is_marked c.args.whites.now in
     let d = c.args.d in
     let i = c.loop-i.i in
-    let (low, high, twos, overs, e) = c.loop-i.invariant in (
-      omega arith,
-      omega arith,
+    let (twos, overs, e) = c.loop-i.invariant in (
       rows_more _ i (omega arith) twos
           (two-row b w d c.requires.3 i e.twos c.both.ensures c.ahead.type_inv c.ahead.ensures),
       rows_more _ i (omega arith) overs (overlining-row b w d c.requires.3 i e.fours c.both-in-loop-i.ensures),
@@ -36,7 +34,7 @@ loop-i-preserved c =
 pub returns : goal.returns
 returns c =
     let i = c.loop-i.i in
-    let (low, high, twos, overs, e) = c.loop-i.invariant in
+    let (twos, overs, e) = c.loop-i.invariant in
     record {
       twos = rows_end _ i (omega arith) (omega arith) twos;
       swords = sword-rows _ _ c.args.d c.requires.3 e.threes;

@@ -1,33 +1,33 @@
 -- `text::forms::stones_in` meets its contract: what it calls says it. Assumes nothing.
-use mathlib.Core.Path.{ap, ◌∙◌}
+use mathlib.Core.Path.{◌≡◌, refl, ap, sym, ◌∙◌}
+use mathlib.Core.List.{List}
 use Prim.Native.Nat.{ℕ}
-use Rattle.cells.specs.Answers.{cells_answer}
-use Rattle.text.specs.Bytes.{slash}
-use Rattle.text.specs.Reading.{stones_in}
-use Rattle.text.proofs.Places.{two-lists}
-use Rattle.text.proofs.Lined.{refused_as}
-use Rattle.text.proofs.Said.{stones-told, stones-said}
+use native.Mathlib.Omega.{arith}
+use borrow.Author.Rules.{rules}
+use lib.ListN.{length}
+use Rattle.std.proofs.Common.{Bor}
+use Rattle.text.specs.Bytes.{slash, before, behind}
+use Rattle.text.specs.Points.{points_refusal, points_in}
+use Rattle.text.specs.Reading.{slash_refusal, stones_text_refusal, stones_in}
+use Rattle.text.proofs.Told.{told_ok, told_err, told_second}
+use Rattle.text.proofs.Places.{behind_or, behind-le}
 use Rattle.text.proofs.forms.stones_in.Goals as goal
 
-pub returns-then-refused-ne0 : goal.returns-then-refused-ne0
-returns-then-refused-ne0 c =
-    let n = c.find-slash in
-    let s = c.args.t.now in
-    let e = two-lists slash n.result c.find-end.result s c.head.result.now c.tail.result.now
-    c.tail-rest.result.now c.head-2.result.now n.ensures c.head.ensures c.tail.ensures
-    c.tail-rest.ensures c.find-end.ensures c.head-2.ensures in
-    let told = stones-told s _ _ _ e c.leading_in-blacks.result c.leading_in-whites.result c.leading_in-blacks.ensures c.leading_in-whites.ensures
-    c.find-end.result c.find-end.ensures _ _ _ c.first-lists.ensures c.unless.ensures c.first-refused.ensures in
-    c.of.ensures ∙ refused_as _ _ (stones_in s) c.if-refused-ne0.true ∙ ap (λ (k : ℕ). cells_answer k (stones_in s)) told
+pub codes_in-requires-2 : goal.codes_in-requires-2
+codes_in-requires-2 c =
+    let e = ap length (ap (λ (b : Bor (List ℕ)). b.now) c.unwrap_or.ensures ∙ behind_or c.parted.result.1 _ refl ∙ c.parted.ensures.behind) in
+    omega (arith, e, behind-le slash c.args.t.now)
 
-pub returns : goal.returns
-returns c =
-    let n = c.find-slash in
-    let s = c.args.t.now in
-    let e = two-lists slash n.result c.find-end.result s c.head.result.now c.tail.result.now
-    c.tail-rest.result.now c.head-2.result.now n.ensures c.head.ensures c.tail.ensures
-    c.tail-rest.ensures c.find-end.ensures c.head-2.ensures in
-    c.stones_cells.ensures
-    ∙ stones-said s _ _ _ e c.leading_in-blacks.result c.leading_in-whites.result c.leading_in-blacks.ensures c.leading_in-whites.ensures
-    c.find-end.result c.find-end.ensures _ _ _ c.first-lists.ensures c.unless.ensures c.first-refused.ensures
-    c.if-refused-ne0.false _ _ c.head-3.ensures c.head-4.ensures
+pub returns-in_err-whites : goal.returns-in_err-whites
+unfolding stones_text_refusal
+returns-in_err-whites c =
+    let t = c.args.t.now in
+    let e = ap (λ (b : Bor (List ℕ)). b.now) c.unwrap_or.ensures ∙ behind_or c.parted.result.1 _ refl ∙ c.parted.ensures.behind in
+    let w : c.parted-2.result.0.now ≡ before slash (behind slash t) = c.parted-2.ensures.before ∙ ap (before slash) e in
+    let blacks = rw c.parted.ensures.before at (told_ok (points_refusal c.parted.result.0.now) (points_in c.parted.result.0.now) c.in_ok-blacks.blacks
+    (sym c.in_ok-blacks.was ∙ c.codes_in.ensures.value)) in
+    let whites = rw w at (told_err (points_refusal c.parted-2.result.0.now) (points_in c.parted-2.result.0.now) c.in_err-whites.field-0.0
+    (sym c.in_err-whites.was ∙ c.codes_in-2.ensures.value)) in
+    let told = told_second (points_refusal (before slash t)) (points_refusal (before slash (behind slash t))) (slash_refusal t) (stones_in t)
+    c.in_err-whites.field-0.0 blacks.0 whites.0 whites.1 in
+    rw (← told) (search rules)

@@ -1,49 +1,62 @@
--- `text::line_text::line_in` meets its contract: x cells are read, and the text from i on has the others. Assumes nothing.
-use mathlib.Core.Path.{refl, sym, ◌∙◌}
-use Prim.Native.Nat.{◌-◌}
+-- `text::line_text::line_in` meets its contract: so many cells are read, and the bytes that are left have the others. Assumes nothing.
+use mathlib.Core.Path.{◌≡◌, refl, sym, ◌∙◌}
+use mathlib.Core.List.{List, ◌∷◌}
+use Prim.Native.Nat.{ℕ, ◌+◌}
 use native.Mathlib.Omega.{arith}
+use borrow.Author.Rules.{rules}
+use borrow.Author.Tests.{ltb-true, ltb-false}
+use lib.Dec.{ltb}
+use lib.ListN.{get_or, drop}
+use Rattle.rules.specs.declared.refusal.Refusal.TheVariants.{OverLength}
 use Rattle.text.specs.Bytes.{small_o, small_x, dense}
-use Rattle.text.proofs.Marks.{marked-none, marked_more, dense-space, dense-cell, dense-end, next-in, next-is, next-rest}
-use Rattle.text.proofs.Marks.{row-said, row-long}
+use Rattle.text.proofs.Told.{test_err, test_ok}
+use Rattle.text.proofs.Dense.{dense-space, dense-cell, dense-end, next-in, next-is, next-rest}
+use Rattle.text.proofs.Marks.{marked-none, marked_more, line-said, line-long}
+use Rattle.text.proofs.line_text.line_in.Goals.{then-not-is_space+in_ok-unless, else-not-is_space}
 use Rattle.text.proofs.line_text.line_in.Goals as goal
 
-pub loop-i-init : goal.loop-i-init
-loop-i-init c =
+pub loop-b-init : goal.loop-b-init
+loop-b-init c =
     let d = dense c.args.s.now in
-    (omega arith, omega arith, omega arith, refl, marked-none d small_o, marked-none d small_x)
+    (omega arith, omega arith, refl, marked-none d small_o, marked-none d small_x)
 
-pub loop-i-preserved-then-is_space : goal.loop-i-preserved-then-is_space
-loop-i-preserved-then-is_space c =
+pub returns-in_err-unless : goal.returns-in_err-unless
+returns-in_err-unless c =
     let s = c.args.s.now in
-    let v = c.loop-i.invariant in
-    let e = dense-space s c.loop-i.i (omega arith) (sym c.is_space.ensures ∙ c.if-is_space.true) in
-    (omega arith, v.1, v.2, sym e ∙ v.3, v.4, v.5)
+    let i = c.loop-b.b-index in
+    let e = sym c.loop-b.invariant.2 ∙ dense-cell s i (omega arith) (sym c.is_space.ensures ∙ c.if-not-is_space.true) in
+    let n = next-in 0 (dense s) c.loop-b.size (get_or s i 0) (dense (drop (i + 1) s)) e in
+    let f = test_err (ltb c.loop-b.size 15) OverLength c.in_err-unless.field-0.0 (sym c.in_err-unless.was ∙ c.unless.ensures) in
+    let h = ltb-false c.loop-b.size 15 f.0 in
+    let told = line-long s (omega arith) in
+    rw (← told) (search rules)
 
-pub returns-then-x-ge15 : goal.returns-then-x-ge15
-returns-then-x-ge15 c =
+pub loop-b-preserved : goal.loop-b-preserved
+loop-b-preserved c =
     let s = c.args.s.now in
-    let e = dense-cell s c.loop-i.i (omega arith) (sym c.is_space.ensures ∙ c.if-is_space.false) in
-    let n = next-in 0 (dense s) c.loop-i.x _ _ (sym c.loop-i.invariant.3 ∙ e) in
-    c.long_line.ensures ∙ row-long s (omega arith)
-
-pub loop-i-preserved : goal.loop-i-preserved
-loop-i-preserved c =
-    let s = c.args.s.now in
-    let x = c.loop-i.x in
-    let e = sym c.loop-i.invariant.3 ∙ dense-cell s c.loop-i.i (omega arith) (sym c.is_space.ensures ∙ c.if-is_space.false) in
-    let at = next-is 0 (dense s) x _ _ e in
-    let n = next-in 0 (dense s) x _ _ e in (
-      omega arith,
-      omega arith,
-      omega arith,
-      sym (next-rest 0 (dense s) x _ _ e),
-      c.set_bit-blacks.ensures ∙ rw c.loop-i.invariant.4 (marked_more x small_o (dense s) _ at),
-      c.set_bit-whites.ensures ∙ rw c.loop-i.invariant.5 (marked_more x small_x (dense s) _ at),
-    )
+    let v = c.loop-b.invariant in
+    let i = c.loop-b.b-index in
+    let x = c.loop-b.size in
+    elim c.if-not-is_space.branch [
+      | then-not-is_space+in_ok-unless w ↦
+          let e = sym v.2 ∙ dense-cell s i (omega arith) (sym c.is_space.ensures ∙ w.if-not-is_space.true) in
+          let at = next-is 0 (dense s) x (get_or s i 0) (dense (drop (i + 1) s)) e in
+          let n = next-in 0 (dense s) x (get_or s i 0) (dense (drop (i + 1) s)) e in
+          let h = ltb-true x 15 (test_ok (ltb x 15) OverLength (sym w.in_ok-unless.was ∙ w.unless.ensures)) in
+          rw (w.size-is, w.blacks-is, w.whites-is) (
+            omega arith,
+            omega arith,
+            sym (next-rest 0 (dense s) x (get_or s i 0) (dense (drop (i + 1) s)) e),
+            w.set_bit-blacks.ensures ∙ rw v.3 (marked_more x small_o (dense s) (get_or s i 0) at),
+            w.set_bit-whites.ensures ∙ rw v.4 (marked_more x small_x (dense s) (get_or s i 0) at),
+          )
+      | else-not-is_space w ↦
+          let e = dense-space s i (omega arith) (sym c.is_space.ensures ∙ w.if-not-is_space.false) in
+          rw (w.size-is, w.blacks-is, w.whites-is) (v.0, v.1, sym e ∙ v.2, v.3, v.4)
+    ]
 
 pub returns : goal.returns
 returns c =
     let s = c.args.s.now in
-    let v = c.loop-i.invariant in
-    row-said s c.loop-i.x c.loop-i.blacks c.loop-i.whites v.1 v.2 (sym (dense-end s c.loop-i.i (omega arith)) ∙ v.3)
-    v.4 v.5
+    let v = c.loop-b.invariant in
+    line-said s c.loop-b.size c.loop-b.blacks c.loop-b.whites v.0 v.1 (sym (dense-end s c.loop-b.b-index (omega arith)) ∙ v.2) v.3 v.4

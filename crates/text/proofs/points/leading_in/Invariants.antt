@@ -1,11 +1,13 @@
--- `text::points::leading_in` meets its contract: n items are read, and the text from i on has the others. Assumes nothing.
-use Prim.Native.Nat.{◌-◌}
+-- `text::points::leading_in` meets its contract: the codes of the items that were read are kept, and the rest of the text has the others.
+-- Assumes nothing.
 use lib.ListN.{length}
+use Rattle.text.specs.Bytes.{comma}
+use Rattle.text.proofs.Places.{left_in}
 use Rattle.text.proofs.Items.{Reading}
 use Rattle.text.proofs.points.leading_in.Given as goal
 
-abbrev pub invariant-loop-t : goal.invariant-loop-t
-invariant-loop-t l = Reading l.t l.codes l.n l.i
+abbrev pub invariant-items : goal.invariant-items
+invariant-items l = Reading l.s l.codes (left_in comma l.rest)
 
-abbrev pub decreases-loop-t : goal.decreases-loop-t
-decreases-loop-t l = length l.t - l.i
+abbrev pub decreases-items : goal.decreases-items
+decreases-items l = length (left_in comma l.rest)

@@ -5,4 +5,4 @@ use Rattle.board.proofs.Given.{read-given}
 use Rattle.board.proofs.board.Board.from_moves.Goals as goal
 
 pub returns : goal.returns
-returns c = c.read.ensures ∙ read-given _ _ _ c.moves_cells.ensures (moves-ok _)
+returns c = c.read.ensures ∙ read-given _ _ c.moves_cells.ensures (moves-ok _)

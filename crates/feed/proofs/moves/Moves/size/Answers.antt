@@ -6,14 +6,8 @@ use borrow.Author.Rules.{rules}
 use Rattle.feed.proofs.Lists.{size-least}
 use Rattle.feed.proofs.moves.Moves.size.Goals as goal
 
-pub returns-then-self-lt225 : goal.returns-then-self-lt225
-returns-then-self-lt225 c =
+pub returns : goal.returns
+returns c =
     let l = c.args.self in
     let e : length l.codes ≡ 225 = search rules in
-    omega (arith, size-least l)
-
-pub returns-else-self-lt225 : goal.returns-else-self-lt225
-returns-else-self-lt225 c =
-    let l = c.args.self in
-    let e : length l.codes ≡ 225 = search rules in
-    omega (arith, size-least l)
+    omega (arith, size-least l, c.min.ensures)
