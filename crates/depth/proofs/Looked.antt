@@ -1,41 +1,20 @@
--- What one question looks at on sound lines: the eye of a Three through a point, whether that completes a five, and whether a nested question
--- is asked. Assumes nothing.
+-- What one question looks at on sound lines: whether the eye of a Three completes a five, and whether a nested question is asked. Assumes
+-- nothing.
 use mathlib.Core.Path.{◌≡◌, refl, ap, sym, ◌∙◌}
 use mathlib.Core.Bool.{Bool, true, false, not, ◌&&◌}
 use mathlib.Core.List.{List}
 use Prim.Native.Nat.{ℕ, ◌≤◌, ◌<◌}
 use native.Mathlib.Omega.{arith}
-use lib.Dec.{T}
 use lib.ListN.{get_or}
-use Rattle.rules.specs.Bit.{bit}
-use Rattle.rules.specs.Point.{line_no, point_at}
-use Rattle.rules.specs.Grid.{is_empty, starts_of, next_from, rows_through}
-use Rattle.rules.specs.Forbidden.{Ask, some_row, more_than_one, black_rows, completes_five, gap_from, eye_of}
+use Rattle.rules.specs.Grid.{is_empty, starts_of, next_from}
+use Rattle.rules.specs.Forbidden.{Ask, some_row, more_than_one, black_rows, completes_five}
 use Rattle.rules.specs.Depth.{greatest, asks_nested, eye_depth, depth_of}
-use Rattle.rules.specs.declared.Player.TheVariants.{Black}
-use Rattle.rules.specs.declared.RowKind.TheVariants.{Three}
 use Rattle.rules.proofs.Starts.{five-is, overline-is, double-four-is, twos-are}
 use Rattle.rules.proofs.Numbered.{next-ge}
-use Rattle.rules.proofs.Gap.{eye-lt}
 use Rattle.rules.proofs.Depth.{deepest_below, nested-told}
-use Rattle.point.specs.Places.{place_of}
-use Rattle.point.specs.declared.place.Place.{Place}
 use Rattle.near.specs.Rows.{RowsAre}
 use Rattle.near.specs.declared.rows.Rows.{Rows}
-use Rattle.grid.specs.Lines.{cells_of, Sound, mask_on}
-use Rattle.referee.proofs.EyeFound.{gap_is}
-
--- ---- the eye, by the mask of the line at an address
-
-module _ (l : List ℕ) (p d j : ℕ) (s : Sound l) (hp : p < 225) (hd : d < 4) (t : T (rows_through Black Three (cells_of l) p d j)) {a : Place}
-    {m gap i q : ℕ} (ea : a ≡ place_of d p) (em : m ≡ mask_on Black l a.key) (eg : gap ≡ gap_from (bit m) j) (ei : i ≡ line_no d p)
-    (eq : q ≡ point_at d i gap) where
-  pub eye-seen : q ≡ eye_of (cells_of l) p d j
-  unfolding eye_of
-  eye-seen = eq ∙ rw (ei, gap_is l p d j s hp hd t ea em eg) refl
-
-  pub eye-byte : q < 256
-  eye-byte = let e = eye-seen in let h = eye-lt (cells_of l) p d j hp hd t in omega arith
+use Rattle.grid.specs.Lines.{cells_of}
 
 -- a point of the lines whose cell is 0 is empty
 pub empty-is : (l : List ℕ) (p : ℕ) → p < 225 → get_or (cells_of l) p 0 ≡ 0 → is_empty (get_or (cells_of l) p 0) ≡ true

@@ -1,6 +1,6 @@
 // The front, on a board by value and on cell bytes: what is given is tested, in section 2's order, and the depth asked. Nothing that is
 // handed in is changed.
-ghost use Rattle.std.specs.Prelude.{◌≡◌, cond, ◌<◌, eqb, Option, Some, None};
+ghost use Rattle.std.specs.Prelude.{◌≡◌, cond, eqb, Option, Some, None};
 ghost use Rattle.rules.specs.Answers.{answer};
 ghost use Rattle.rules.specs.Bit.{digit};
 ghost use Rattle.rules.specs.Forbidden.{strict_of};
@@ -14,7 +14,7 @@ ghost use Rattle.depth.specs.Answers.{depth_answer};
 use super::cycle::depth_on;
 use board::Board;
 use referee::ruling_of;
-use rules::{Refusal, Verdict};
+use rules::{Code, Refusal, Verdict};
 
 // A depth with the strict verdict.
 #[derive(Clone, Copy, Debug, PartialEq, Eq)]
@@ -31,7 +31,7 @@ pub fn depth(board: Board, code: u8) -> Result<u8, Refusal>
 {
     board.refusal_at(code)?;
     let mut lines = board.lines;
-    Ok(depth_on(&mut lines, code))
+    Ok(depth_on(&mut lines, Code::new(code).unwrap()))
 }
 
 // The same of a board given as cell bytes.
@@ -50,20 +50,19 @@ pub fn strict_depth_of(cells: &[u8], code: u8) -> Result<DepthAnswer, Refusal>
 {
     let ruling = ruling_of(cells, code)?;
     Ok(DepthAnswer {
-        depth: ruled_depth(cells, code, ruling.lines),
+        depth: ruled_depth(cells, Code::new(code).unwrap(), ruling.lines),
         verdict: ruling.verdict,
     })
 }
 
 // Where no stone may be tried not more than one Two goes through the point, so that nothing nested is asked.
-fn ruled_depth(cells: &[u8], code: u8, lines: Option<[u16; 144]>) -> u8
-    requires { Cells cells.now × (code < 225)
-        × (lines ≡ cond (is_tried cells.now code) (Some (lines_of cells.now)) None) }
+fn ruled_depth(cells: &[u8], code: Code, lines: Option<[u16; 144]>) -> u8
+    requires { Cells cells.now × (lines ≡ cond (is_tried cells.now code) (Some (lines_of cells.now)) None) }
     ensures { result ≡ depth_of cells.now code }
 {
     match lines {
         Some(mut lines) => depth_on(&mut lines, code),
-        None => shallow_depth(cells[code as usize]),
+        None => shallow_depth(cells[code.get() as usize]),
     }
 }
 

@@ -7,6 +7,7 @@ use mathlib.Core.List.{List, [], ◌∷◌}
 use Prim.Native.Nat.{ℕ, zero, suc, ◌+◌, ◌≤◌}
 use native.Mathlib.Omega.{arith}
 use lib.ListN.{get_or, take}
+use Rattle.std.specs.Prelude.{Option, Some, None}
 use Rattle.rules.specs.Numbers.{opponent_of}
 use Rattle.rules.specs.Grid.{put, play}
 use Rattle.rules.specs.Fives.{makes_five}
@@ -16,12 +17,12 @@ use Rattle.rules.proofs.Logic.{decide}
 use Rattle.lent.specs.Lists.{zeros}
 use Rattle.cells.specs.Cells.{puts, moves_cells}
 use Rattle.game.specs.Game.{is_fault, reason_of, won_after, Report, no_fault, fault_at, report_from, report_of}
-use Rattle.game.specs.declared.report.Winner.{Winner}
-use Rattle.game.specs.declared.report.Winner.TheVariants as winner
+use Rattle.game.specs.Answers.{fault_of, fault_no, fault_reason}
+use Rattle.game.specs.declared.report.Reason.{Reason}
 use Rattle.game.proofs.Read.{from-fault, from-good}
 
 -- a report from number n + 1 on names no fault, or one of these numbers
-number-from : (n : ℕ) (r : Player) (won : Winner) (cells moves : List ℕ)
+number-from : (n : ℕ) (r : Player) (won : Option Player) (cells moves : List ℕ)
     → ((report_from (suc n) r won cells moves).number ≡ 0) ⊎ (suc n ≤ (report_from (suc n) r won cells moves).number)
 unfolding report_from
 number-from n r won cells [] = inl refl
@@ -39,9 +40,34 @@ number-from n r won cells (p ∷ moves) =
     go false (inl e) = inl e
     go false (inr l) = inr (omega arith)
 
+-- a report without a reason has number 0: the fault that is handed out has the report's number
+numbered-from : (n : ℕ) (r : Player) (won : Option Player) (cells moves : List ℕ)
+    → fault_no (fault_of (report_from n r won cells moves).number (report_from n r won cells moves).reason)
+    ≡ (report_from n r won cells moves).number
+unfolding report_from
+numbered-from n r won cells [] = refl
+numbered-from n r won cells (p ∷ moves) =
+    go (reason_of r won cells p) (report_from (suc n) (opponent_of r) (won_after (makes_five r cells p) r) (put r cells p) moves)
+    (numbered-from (suc n) (opponent_of r) (won_after (makes_five r cells p) r) (put r cells p) moves)
+  where
+    go : (why : Option Reason) (rest : Report) → fault_no (fault_of rest.number rest.reason) ≡ rest.number
+        → fault_no (fault_of (cond (is_fault why) (fault_at n why cells) rest).number (cond (is_fault why) (fault_at n why cells) rest).reason)
+        ≡ (cond (is_fault why) (fault_at n why cells) rest).number
+    go None rest h = h
+    go (Some why) rest h = refl
+
+pub fault-numbered : (moves : List ℕ) → fault_no (fault_of (report_of moves).number (report_of moves).reason) ≡ (report_of moves).number
+unfolding report_of
+fault-numbered moves = numbered-from 1 Black None (zeros 225) moves
+
+-- .. and the report's reason
+pub fault-reasoned : (n : ℕ) (why : Option Reason) → fault_reason (fault_of n why) ≡ why
+fault-reasoned n None = refl
+fault-reasoned n (Some why) = refl
+
 -- ---- no fault
 
-played-from : (n : ℕ) (r : Player) (won : Winner) (cells moves : List ℕ) → (report_from (suc n) r won cells moves).number ≡ 0
+played-from : (n : ℕ) (r : Player) (won : Option Player) (cells moves : List ℕ) → (report_from (suc n) r won cells moves).number ≡ 0
     → (report_from (suc n) r won cells moves).cells ≡ play (puts true r moves) cells
 unfolding report_from puts play
 played-from n r won cells [] e = refl
@@ -61,7 +87,7 @@ played-from n r won cells (p ∷ moves) e =
 -- a game without a fault has the board of its moves
 pub no-fault-board : (moves : List ℕ) → (report_of moves).number ≡ 0 → (report_of moves).cells ≡ moves_cells moves
 unfolding report_of moves_cells
-no-fault-board moves e = played-from 0 Black winner.None (zeros 225) moves e
+no-fault-board moves e = played-from 0 Black None (zeros 225) moves e
 
 -- ---- a fault
 
@@ -74,10 +100,10 @@ mover_from r (suc n) = mover_from (opponent_of r) n
 pub record Stopped (r : Player) (i p : ℕ) (whole before : Report) : Type 0 where
   pub clean : before.number ≡ 0
   pub board : whole.cells ≡ before.cells
-  pub nobody : whole.winner ≡ winner.None
+  pub nobody : whole.winner ≡ None
   pub why : whole.reason ≡ reason_of (mover_from r i) before.winner before.cells p
 
-stopped-from : (n : ℕ) (r : Player) (won : Winner) (cells moves : List ℕ) (i : ℕ)
+stopped-from : (n : ℕ) (r : Player) (won : Option Player) (cells moves : List ℕ) (i : ℕ)
     → (report_from (suc n) r won cells moves).number ≡ suc n + i
     → Stopped r i (get_or moves i 0) (report_from (suc n) r won cells moves) (report_from (suc n) r won cells (take i moves))
 unfolding report_from
@@ -120,7 +146,7 @@ stopped-from n r won cells (p ∷ moves) (suc i) e =
 pub fault-stops : (moves : List ℕ) (n : ℕ) → (report_of moves).number ≡ suc n
     → Stopped Black n (get_or moves n 0) (report_of moves) (report_of (take n moves))
 unfolding report_of
-fault-stops moves n e = stopped-from 0 Black winner.None (zeros 225) moves n (e ∙ (let q : suc n ≡ 1 + n = omega arith in q))
+fault-stops moves n e = stopped-from 0 Black None (zeros 225) moves n (e ∙ (let q : suc n ≡ 1 + n = omega arith in q))
 
 -- so that board is the board of these moves
 pub fault-board : (moves : List ℕ) (n : ℕ) → (report_of moves).number ≡ suc n → (report_of moves).cells ≡ moves_cells (take n moves)

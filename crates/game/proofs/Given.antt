@@ -4,7 +4,7 @@ use mathlib.Core.Bool.{Bool, true, false, cond}
 use mathlib.Core.List.{List, [], ◌∷◌}
 use Prim.Native.Nat.{ℕ, suc}
 use lib.Dec.{eqb}
-use Rattle.std.specs.Prelude.{Result, Ok, Err}
+use Rattle.std.specs.Prelude.{Option, None, Result, Ok, Err}
 use Rattle.rules.specs.Answers.{answer, refusal_named}
 use Rattle.rules.specs.declared.refusal.Refusal.{Refusal}
 use Rattle.rules.proofs.Refusals.{answered}
@@ -20,11 +20,9 @@ use Rattle.board.specs.Boards.{cells, board_refusal}
 use Rattle.board.proofs.Given.{board-sound, board-cells}
 use Rattle.game.specs.Game.{is_fault, reason_of, won_after, Report, fault_at, report_from, report_of}
 use Rattle.game.specs.Answers.{reported, game_report}
-use Rattle.game.specs.declared.report.Winner.{Winner}
-use Rattle.game.specs.declared.report.Winner.TheVariants as winner
 use Rattle.game.specs.declared.report.GameReport.{GameReport}
 
-from-ok : (n : ℕ) (r : Player) (won : Winner) (c moves : List ℕ) → Cells c → Cells (report_from n r won c moves).cells
+from-ok : (n : ℕ) (r : Player) (won : Option Player) (c moves : List ℕ) → Cells c → Cells (report_from n r won c moves).cells
 unfolding report_from
 from-ok n r won c [] ok = ok
 from-ok n r won c (p ∷ moves) ok =
@@ -38,7 +36,7 @@ from-ok n r won c (p ∷ moves) ok =
 -- a report's cells are 225 of 0, 1 or 2
 pub report-ok : (moves : List ℕ) → Cells (report_of moves).cells
 unfolding report_of
-report-ok moves = from-ok 1 Black winner.None (zeros 225) moves cells-zeros
+report-ok moves = from-ok 1 Black None (zeros 225) moves cells-zeros
 
 module _ (refused : ℕ) (moves : List ℕ) {r : GameReport} (e : game_report refused (report_of moves) ≡ Ok r) where
   given : r ≡ reported (report_of moves)

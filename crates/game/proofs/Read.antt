@@ -19,7 +19,9 @@ use Rattle.rules.specs.declared.Player.{Player}
 use Rattle.rules.specs.declared.Player.TheVariants.{Black, White}
 use Rattle.rules.specs.declared.Verdict.{Verdict}
 use Rattle.rules.specs.declared.refusal.Refusal.{Refusal}
-use Rattle.std.specs.Prelude.{Result, Ok, Err}
+use Rattle.std.specs.Prelude.{Option, Some, None, Result, Ok, Err}
+use Rattle.std.specs.Bool.{then_some}
+use Rattle.std.specs.Option.{is_some}
 use Rattle.rules.specs.declared.RowKind.{RowKind}
 use Rattle.rules.specs.declared.RowKind.TheVariants.{Two, Sword, Four, Overlining}
 use Rattle.rules.proofs.Logic.{no_true, true-T, decide}
@@ -40,28 +42,25 @@ use Rattle.referee.specs.Referee.{MasksOf}
 use Rattle.referee.proofs.RowsSeen.{seen-rows, masks-sound}
 use Rattle.board.specs.Boards.{board_from}
 use Rattle.board.proofs.Given.{from-lines}
-use Rattle.game.specs.Game.{is_fault, is_won, is_forbidden, lowest, reason_of, won_after, Report, no_fault, fault_at, report_from, report_of}
-use Rattle.game.specs.Answers.{report_with, reported}
+use Rattle.game.specs.Game.{is_fault, is_forbidden, lowest, reason_of, won_after, Report, no_fault, fault_at, report_from, report_of}
+use Rattle.game.specs.Answers.{fault_of, report_with, reported}
 use Rattle.game.specs.declared.report.Reason.{Reason}
-use Rattle.game.specs.declared.report.Reason.TheVariants as reason
-use Rattle.game.specs.declared.report.Winner.{Winner}
-use Rattle.game.specs.declared.report.Winner.TheVariants as winner
 
 -- ---- the reason, by the three tests
 
-pub reason-told : (r : Player) (won : Winner) (cells : List ℕ) (p v : ℕ) {forbidden after : Bool}
-    → is_empty (get_or cells p 0) ≡ eqb v 0 → forbidden ≡ is_forbidden r cells p → after ≡ is_won won
+pub reason-told : (r : Player) (won : Option Player) (cells : List ℕ) (p v : ℕ) {forbidden after : Bool}
+    → is_empty (get_or cells p 0) ≡ eqb v 0 → forbidden ≡ is_forbidden r cells p → after ≡ is_some won
     → lowest (not (eqb v 0)) forbidden after ≡ reason_of r won cells p
 unfolding reason_of
 reason-told r won cells p v ev ef ea = rw (ev, ef, ea)
 
 -- a move without a fault goes to an empty point
-pub faultless-empty : (r : Player) (won : Winner) (cells : List ℕ) (p : ℕ) → is_fault (reason_of r won cells p) ≡ false
+pub faultless-empty : (r : Player) (won : Option Player) (cells : List ℕ) (p : ℕ) → is_fault (reason_of r won cells p) ≡ false
     → is_empty (get_or cells p 0) ≡ true
 unfolding reason_of
 faultless-empty r won cells p e = go (is_empty (get_or cells p 0)) e
   where
-    go : (b : Bool) → is_fault (lowest (not b) (is_forbidden r cells p) (is_won won)) ≡ false → b ≡ true
+    go : (b : Bool) → is_fault (lowest (not b) (is_forbidden r cells p) (is_some won)) ≡ false → b ≡ true
     go true q = refl
     go false q = absurd (no_true (sym q))
 
@@ -130,7 +129,7 @@ never-refused asked told = cc
 
 -- ---- a turn of the reading
 
-module _ (n : ℕ) (r : Player) (won : Winner) (cells : List ℕ) where
+module _ (n : ℕ) (r : Player) (won : Option Player) (cells : List ℕ) where
   -- on a list that begins with p
   pub from-fault : (p : ℕ) (moves : List ℕ) → is_fault (reason_of r won cells p) ≡ true
       → report_from n r won cells (p ∷ moves) ≡ fault_at n (reason_of r won cells p) cells
@@ -165,7 +164,7 @@ module _ (n : ℕ) (r : Player) (won : Winner) (cells : List ℕ) where
 
 -- ---- the stone of a move without a fault, added to sound lines
 
-module _ (r : Player) (won : Winner) (l : List ℕ) (p : ℕ) (s : Sound l) (hp : p < 225)
+module _ (r : Player) (won : Option Player) (l : List ℕ) (p : ℕ) (s : Sound l) (hp : p < 225)
     (good : is_fault (reason_of r won (cells_of l) p) ≡ false) where
   pub point-free : get_or (cells_of l) p 0 ≡ 0
   point-free = eqb-true (get_or (cells_of l) p 0) 0 (empty-cell l p hp ∙ faultless-empty r won (cells_of l) p good)
@@ -176,6 +175,12 @@ module _ (r : Player) (won : Winner) (l : List ℕ) (p : ℕ) (s : Sound l) (hp 
   pub stone-cells : {m : List ℕ} → m ≡ add_on l p r → cells_of m ≡ put r (cells_of l) p
   stone-cells e = ap cells_of (e ∙ add-write l p r s hp point-free) ∙ cells-write l p (colour_no r) s (colour-small r)
 
+-- who has won after it
+pub won-told : (five : Bool) (r : Player) → then_some five r ≡ won_after five r
+unfolding won_after
+won-told true r = refl
+won-told false r = refl
+
 -- the lines after a move: as they were where it is faulty, else with the stone
 pub lines-kept : (l n : List ℕ) {fault : Bool} {m : List ℕ} → fault ≡ true → m ≡ cond fault l n → m ≡ l
 lines-kept l n e em = em ∙ rw e
@@ -185,28 +190,28 @@ lines-moved l n e em = em ∙ rw e
 
 -- ---- the loop: what is left to read from the present lines gives the whole
 
-module _ (moves l : List ℕ) (i : ℕ) (r : Player) (won : Winner) (s : Sound l)
+module _ (moves l : List ℕ) (i : ℕ) (r : Player) (won : Option Player) (s : Sound l)
     (whole : report_from (suc i) r won (cells_of l) (drop i moves) ≡ report_of moves) where
   -- the board of the report is that of the lines
   answered : (x : Report) → x.cells ≡ cells_of l → report_of moves ≡ x
-      → report_with x.number x.reason x.winner (board_from l) ≡ reported (report_of moves)
+      → report_with (fault_of x.number x.reason) x.winner (board_from l) ≡ reported (report_of moves)
   unfolding reported
   answered x ec e =
-      ap (report_with x.number x.reason x.winner) (from-lines x.cells (sound-lines l s ∙ ap lines_of (sym ec)))
+      ap (report_with (fault_of x.number x.reason) x.winner) (from-lines x.cells (sound-lines l s ∙ ap lines_of (sym ec)))
       ∙ ap reported (sym e)
 
-  pub report-fault : {why : Reason} → i < length moves → why ≡ reason_of r won (cells_of l) (get_or moves i 0) → is_fault why ≡ true
-      → report_with (i + 1) why winner.None (board_from l) ≡ reported (report_of moves)
-  report-fault {why} h ey f =
-      ap (λ (n : ℕ). report_with n why winner.None (board_from l)) (add-one i)
-      ∙ answered (fault_at (suc i) why (cells_of l)) refl
-      (sym whole ∙ read-fault (suc i) r won (cells_of l) moves i h (ap is_fault (sym ey) ∙ f)
-      ∙ ap (λ (w : Reason). fault_at (suc i) w (cells_of l)) (sym ey))
+  pub report-fault : {why : Reason} → i < length moves → Some why ≡ reason_of r won (cells_of l) (get_or moves i 0)
+      → report_with (fault_of (i + 1) (Some why)) None (board_from l) ≡ reported (report_of moves)
+  report-fault {why} h ey =
+      ap (λ (n : ℕ). report_with (fault_of n (Some why)) None (board_from l)) (add-one i)
+      ∙ answered (fault_at (suc i) (Some why) (cells_of l)) refl
+      (sym whole ∙ read-fault (suc i) r won (cells_of l) moves i h (ap is_fault (sym ey))
+      ∙ ap (λ (w : Option Reason). fault_at (suc i) w (cells_of l)) (sym ey))
 
-  pub report-end : length moves ≤ i → report_with 0 reason.None won (board_from l) ≡ reported (report_of moves)
+  pub report-end : length moves ≤ i → report_with None won (board_from l) ≡ reported (report_of moves)
   report-end h = answered (no_fault won (cells_of l)) refl (sym whole ∙ read-end (suc i) r won (cells_of l) moves i h)
 
-  pub report-more : {m : List ℕ} {r' : Player} {won' : Winner} {five : Bool} → i < length moves → get_or moves i 0 < 225
+  pub report-more : {m : List ℕ} {r' : Player} {won' : Option Player} {five : Bool} → i < length moves → get_or moves i 0 < 225
       → is_fault (reason_of r won (cells_of l) (get_or moves i 0)) ≡ false → m ≡ add_on l (get_or moves i 0) r
       → five ≡ makes_five r (cells_of l) (get_or moves i 0) → won' ≡ won_after five r → r' ≡ opponent_of r
       → report_from (suc (i + 1)) r' won' (cells_of m) (drop (i + 1) moves) ≡ report_of moves

@@ -8,6 +8,7 @@ use native.Mathlib.Omega.{arith}
 use lib.Dec.{leb, ltb, le→leb}
 use lib.ListN.{length, get_or, length-set}
 use borrow.Author.Tests.{lt-ltb}
+use Rattle.std.specs.Prelude.{Option, None}
 use Rattle.rules.specs.Numbers.{colour_no, opponent_of}
 use Rattle.rules.specs.Refusals.{many_moves, unless}
 use Rattle.rules.specs.Tools.{all_below}
@@ -29,8 +30,6 @@ use Rattle.cells.proofs.Given.{moves-in}
 use Rattle.game.specs.Game.{is_fault, is_forbidden, reason_of, won_after, Report, fault_at, report_from, report_of}
 use Rattle.game.specs.Answers.{game_report}
 use Rattle.game.specs.declared.report.Reason.{Reason}
-use Rattle.game.specs.declared.report.Winner.{Winner}
-use Rattle.game.specs.declared.report.Winner.TheVariants as winner
 use Rattle.game.proofs.Read.{from-fault, from-good}
 
 -- the moves in a view, and a report with its board turned
@@ -54,12 +53,12 @@ module _ (v : ℕ) (hv : v < 8) where
       (record { len_a = length-zeros 225; len_b = length-zeros 225; same = λ p hp. zeros-at 225 (turn v p) ∙ sym (zeros-at 225 p) })
 
   -- the reason of a move
-  reason-view : (r : Player) (won : Winner) (cells : List ℕ) (p : ℕ) → length cells ≡ 225 → p < 225
+  reason-view : (r : Player) (won : Option Player) (cells : List ℕ) (p : ℕ) → length cells ≡ 225 → p < 225
       → reason_of r won (turn_cells v cells) (turn v p) ≡ reason_of r won cells p
   unfolding reason_of is_forbidden
   reason-view r won cells p l hp = rw ((turned-cells v cells hv l).same p hp, strict-view v cells p hv l hp)
 
-  view-from : (n : ℕ) (r : Player) (won : Winner) (cells moves : List ℕ) → length cells ≡ 225
+  view-from : (n : ℕ) (r : Player) (won : Option Player) (cells moves : List ℕ) → length cells ≡ 225
       → ((i : ℕ) → i < length moves → get_or moves i 0 < 225)
       → report_from n r won (turn_cells v cells) (turn_moves v moves) ≡ turn_report v (report_from n r won cells moves)
   unfolding report_from turn_moves
@@ -83,7 +82,7 @@ module _ (v : ℕ) (hv : v < 8) where
           → report_from n r won (turn_cells v cells) (turn v p ∷ turn_moves v moves) ≡ turn_report v (report_from n r won cells (p ∷ moves))
       go (inl t) ih =
           from-fault n r won (turn_cells v cells) (turn v p) (turn_moves v moves) (ap is_fault same ∙ t)
-          ∙ ap (λ (w : Reason). fault_at n w (turn_cells v cells)) same
+          ∙ ap (λ (w : Option Reason). fault_at n w (turn_cells v cells)) same
           ∙ ap (turn_report v) (sym (from-fault n r won cells p moves t))
       go (inr t) ih =
           from-good n r won (turn_cells v cells) (turn v p) (turn_moves v moves) (ap is_fault same ∙ t)
@@ -96,8 +95,8 @@ module _ (v : ℕ) (hv : v < 8) where
 pub report-view : (v : ℕ) (moves : List ℕ) → v < 8 → moves_refusal moves ≡ 0 → report_of (turn_moves v moves) ≡ turn_report v (report_of moves)
 unfolding report_of
 report-view v moves hv e =
-    ap (λ (c : List ℕ). report_from 1 Black winner.None c (turn_moves v moves)) (turned-zeros v hv)
-    ∙ view-from v hv 1 Black winner.None (zeros 225) moves (length-zeros 225) (moves-in moves e).1
+    ap (λ (c : List ℕ). report_from 1 Black None c (turn_moves v moves)) (turned-zeros v hv)
+    ∙ view-from v hv 1 Black None (zeros 225) moves (length-zeros 225) (moves-in moves e).1
 
 -- the turned moves are not refused either
 turned-length : (v : ℕ) (moves : List ℕ) → length (turn_moves v moves) ≡ length moves

@@ -6,4 +6,4 @@ mod report;
 mod turn;
 
 pub use game::referee_game;
-pub use report::{GameReport, Reason, Winner};
+pub use report::{Fault, GameReport, Reason};

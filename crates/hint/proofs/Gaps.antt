@@ -25,7 +25,7 @@ use Rattle.rules.proofs.Numbered.{next_le, next-ge, next-on, next-none, next-fir
 use Rattle.rules.proofs.More.{some_row-elim}
 use Rattle.rules.proofs.Windows.{free-at}
 use Rattle.hint.specs.Hint.{is_four_eye, eyes_from}
-use Rattle.hint.specs.Seen.{gap_of, sword_eye, is_several, OnlyEye}
+use Rattle.hint.specs.Seen.{gap_of, sword_eye, OnlyEye}
 use Rattle.hint.proofs.OneLine.{Scored, scores-says, four-gap}
 use Rattle.hint.proofs.Stone.{four-scores, none-empty, within, in_window}
 use Rattle.hint.proofs.Swords.{sword-four}

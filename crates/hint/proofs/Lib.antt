@@ -1,4 +1,5 @@
 -- The laws of `hint`.
+pub mod Bounded
 pub mod OneLine
 pub mod Stone
 pub mod Picked

@@ -6,7 +6,7 @@ use mathlib.Core.List.{List, [], ◌∷◌}
 use Prim.Native.Nat.{ℕ, suc, ◌+◌, ◌<◌}
 use native.Mathlib.Numerals.{add-one}
 use native.Mathlib.Decide.{ℕ_discrete}
-use lib.Dec.{T, eqb, ltb, eqb→eq, ltb→lt, lt→ltb}
+use lib.Dec.{T, ltb, eqb→eq, ltb→lt, lt→ltb}
 use lib.ListN.{length, get_or, length-set}
 use Rattle.rules.specs.Numbers.{colour_no, is_none, is_white, opponent_of}
 use Rattle.rules.specs.Tools.{any_below}

@@ -10,7 +10,6 @@ use Rattle.rules.specs.Forbidden.{some_row, strict_of}
 use Rattle.rules.specs.declared.Player.{Player}
 use Rattle.rules.specs.declared.RowKind.{RowKind}
 use Rattle.rules.specs.declared.RowKind.TheVariants.{Sword}
-use Rattle.grid.specs.Lines.{cells_of, Sound}
 use Rattle.hint.specs.Hint.{completes, may_attack, ends_at, forces, after_both, reaches_end}
 use Rattle.hint.specs.declared.attack.Attack.{Attack}
 use Rattle.hint.specs.declared.attack.Attack.TheVariants as attack

@@ -1,32 +1,28 @@
 // The check of a list of points, on lines that it may change: each attack and its reply are put, and what is left of the list is looked at
 // from there.
-ghost use Rattle.std.specs.Prelude.{◌≡◌, ◌∷◌};
-ghost use Rattle.point.specs.Places.{addresses};
+ghost use Rattle.std.specs.Prelude.{◌≡◌};
 ghost use Rattle.grid.specs.Lines.{cells_of, Sound};
 ghost use Rattle.hint.specs.Hint.{reaches_end};
 ghost use Rattle.hint.specs.Seen.{Quiet};
 
 use super::attack::{Attack, attack_at};
 use grid::mark_by;
-use rules::Player;
+use point::Table;
+use rules::{Code, Player};
 
 // "A list must reach the end and nothing may follow it."; "with one eye the next point in the list must be that eye and the defender plays
 // it".
-pub(crate) fn check_on(
-    lines: &mut [u16; 144],
-    table: &[u16; 900],
-    side: Player,
-    list: &[u8],
-) -> bool
-    requires { Sound lines.old × (table.now ≡ addresses) × Quiet side (cells_of lines.old) }
+pub(crate) fn check_on(lines: &mut [u16; 144], table: &Table, side: Player, list: &[u8]) -> bool
+    requires { Sound lines.old × Quiet side (cells_of lines.old) }
     ensures { result ≡ reaches_end side (cells_of lines.old) list.now }
 {
+    let numbers = table.numbers();
     let mut left = list;
-    while let [code, after @ ..] = left {
-        if 225 <= *code {
+    while let [first, after @ ..] = left {
+        let Some(code) = Code::new(*first) else {
             return false;
-        }
-        match attack_at(lines, table, *code, side) {
+        };
+        match attack_at(lines, table, code, side) {
             Attack::No => return false,
             Attack::Ends => return after.is_empty(),
             Attack::Forces(eye) => {
@@ -36,8 +32,8 @@ pub(crate) fn check_on(
                 if *reply != eye {
                     return false;
                 }
-                mark_by(lines, table, *code, side, true);
-                mark_by(lines, table, eye, side.opponent(), true);
+                mark_by(lines, numbers, *first, side, true);
+                mark_by(lines, numbers, eye, side.opponent(), true);
                 left = rest;
             }
         }

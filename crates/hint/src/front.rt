@@ -15,7 +15,7 @@ use super::tries::tries_of;
 use cells::{cells_refusal, codes_refusal};
 use grid::lines_of;
 use lent::{Kept, hand_out};
-use point::addresses;
+use point::Table;
 use rules::{Player, Refusal, colour_refusal, unless};
 
 // Whether a list of points is a sure win by fours for the colour, to move.
@@ -47,7 +47,7 @@ fn checked(cells: &[u8], side: Player, list: &[u8]) -> bool
     ensures { result ≡ acceptable side cells.now list.now }
 {
     let mut lines = lines_of(cells);
-    is_open(&lines, side) && check_on(&mut lines, &addresses(), side, list)
+    is_open(&lines, side) && check_on(&mut lines, &Table::new(), side, list)
 }
 
 // The plan, of the cells of a board: at most 11 points.
@@ -64,7 +64,7 @@ fn planned(cells: &[u8], side: Player, limit: u8) -> Kept<11>
     let mut points = [0u8; 11];
     let count = plan_on(
         &mut lines,
-        &addresses(),
+        &Table::new(),
         side,
         limit,
         &tries,

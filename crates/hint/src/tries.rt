@@ -1,19 +1,18 @@
 // The points that the planner tries: every empty point that has a Sword or a Four of the attacker's through it is among them. Bit y of mask
 // x is the point (x, y). They are read off all lines once, at the start; after an attack only the lines through its stone can have new
 // ones.
-ghost use Rattle.std.specs.Prelude.{◌≡◌, true, ◌<◌, length};
+ghost use Rattle.std.specs.Prelude.{◌≡◌, true};
 ghost use Rattle.rules.specs.Numbers.{opponent_of};
 ghost use Rattle.rules.specs.Bit.{bit, mask_of};
 ghost use Rattle.rules.specs.Point.{key_dir, key_no, key_size, key_point, line_no};
-ghost use Rattle.point.specs.Places.{addresses};
 ghost use Rattle.grid.specs.Lines.{cells_of, Sound, shows};
 ghost use Rattle.hint.specs.Seen.{Kept, MarkedIf, MarkedCells, MarkedLine, MarkedThrough, Covers, hot_cell, NextTry};
 
 use grid::mask_on;
 use masks::{bit_at, count_mask, empty_cells, eyes_of, set_bit};
 use near::next_start;
-use point::{address_by, key_direction, key_no, key_size, point_at};
-use rules::Player;
+use point::{Table, address_by, key_direction, key_no, key_size, point_at};
+use rules::{Code, Key, Player, Way};
 
 // On a whole board.
 pub(crate) fn tries_of(lines: &[u16; 144], side: Player) -> [u16; 15]
@@ -22,7 +21,7 @@ pub(crate) fn tries_of(lines: &[u16; 144], side: Player) -> [u16; 15]
 {
     let mut tries = [0u16; 15];
     for key in 0..72u8 {
-        mark_line(&mut tries, lines, key, side);
+        mark_line(&mut tries, lines, Key::new(key).unwrap(), side);
     }
     tries
 }
@@ -31,16 +30,16 @@ pub(crate) fn tries_of(lines: &[u16; 144], side: Player) -> [u16; 15]
 pub(crate) fn tries_after(
     tries: [u16; 15],
     lines: &[u16; 144],
-    table: &[u16; 900],
-    code: u8,
+    table: &Table,
+    code: Code,
     side: Player,
 ) -> [u16; 15]
-    requires { Sound lines.now × (code < 225) × (table.now ≡ addresses) }
+    requires { Sound lines.now }
     ensures { Kept tries result × MarkedThrough side (cells_of lines.now) code result }
 {
     let mut next = tries;
     for d in 0..4u8 {
-        mark_along(&mut next, lines, table, d, code, side);
+        mark_along(&mut next, lines, table, Way::new(d).unwrap(), code, side);
     }
     next
 }
@@ -68,27 +67,28 @@ pub(crate) fn next_try(tries: &[u16; 15], lines: &[u16; 144], from: u8) -> u8
 fn mark_along(
     tries: &mut [u16; 15],
     lines: &[u16; 144],
-    table: &[u16; 900],
-    d: u8,
-    code: u8,
+    table: &Table,
+    d: Way,
+    code: Code,
     side: Player,
 )
-    requires { Sound lines.now × (d < 4) × (code < 225) × (table.now ≡ addresses) × (length tries.old ≡ 15) }
+    requires { Sound lines.now }
     ensures { Kept tries.old tries.new
         × MarkedLine side (cells_of lines.now) d (line_no d code) tries.new }
 {
-    let a = address_by(table, d, code);
+    let a = address_by(table.numbers(), d.get(), code.get());
     if a.stored {
-        mark_line(tries, lines, a.key, side);
+        mark_line(tries, lines, Key::new(a.key).unwrap(), side);
     }
 }
 
 // The line of a key.
-fn mark_line(tries: &mut [u16; 15], lines: &[u16; 144], key: u8, side: Player)
-    requires { Sound lines.now × (key < 72) × (length tries.old ≡ 15) }
+fn mark_line(tries: &mut [u16; 15], lines: &[u16; 144], key: Key, side: Player)
+    requires { Sound lines.now }
     ensures { Kept tries.old tries.new
         × MarkedLine side (cells_of lines.now) (key_dir key) (key_no key) tries.new }
 {
+    let key = key.get();
     let cells = hot_cells(lines, key, side);
     if cells != 0 {
         mark_cells(tries, key, cells);
@@ -109,7 +109,6 @@ fn hot_cells(lines: &[u16; 144], key: u8, player: Player) -> u16
 
 // The cells of a line, each by its point.
 fn mark_cells(tries: &mut [u16; 15], key: u8, cells: u16)
-    requires { length tries.old ≡ 15 }
     ensures { Kept tries.old tries.new × MarkedCells key 15 (bit cells) tries.new }
 {
     for j in 0..15u8 {
@@ -119,7 +118,6 @@ fn mark_cells(tries: &mut [u16; 15], key: u8, cells: u16)
 
 // One cell, or none.
 fn mark_cell(tries: &mut [u16; 15], key: u8, j: u8, on: bool)
-    requires { length tries.old ≡ 15 }
     ensures { Kept tries.old tries.new × MarkedIf on (key_point key j) tries.new }
 {
     if on {
@@ -129,7 +127,6 @@ fn mark_cell(tries: &mut [u16; 15], key: u8, j: u8, on: bool)
 
 // One point. A number over 224 is none.
 fn mark_point(tries: &mut [u16; 15], code: u16)
-    requires { length tries.old ≡ 15 }
     ensures { Kept tries.old tries.new × MarkedIf true code tries.new }
 {
     let x = (code / 15) as usize;

@@ -14,7 +14,7 @@ use board::Board;
 use cells::{empty_points_of, neighbors_of, stones_of};
 use grid::cells_on;
 use lent::hand_out;
-use rules::{Player, Refusal, RowKind};
+use rules::{Code, Key, Player, Refusal, RowKind};
 
 // The colour's stones, as codes, ascending.
 pub fn stones(board: Board, colour: u8, out: &mut [u8]) -> Result<u16, Refusal>
@@ -80,6 +80,7 @@ pub fn rows_on(board: Board, code: u8, colour: u8, kind: u8, out: &mut [u8]) -> 
         (rows_on_point (player_of colour) (kind_of kind) (cells board) code)) }
 {
     board.rows_on_refusal(code, colour, kind)?;
+    let code = Code::new(code).unwrap();
     let found = rows_through(
         &board.lines,
         code,
@@ -97,6 +98,7 @@ pub fn four_eyes_on(board: Board, code: u8, colour: u8, out: &mut [u8]) -> Resul
         (four_eyes (player_of colour) (cells board) code)) }
 {
     board.refusal_for(code, colour)?;
+    let code = Code::new(code).unwrap();
     let found = four_eyes(&board.lines, code, Player::or_white(colour));
     hand_out(found.as_slice(), found.len() as u16, out)
 }
@@ -107,6 +109,7 @@ pub fn row_points(key: u8, j: u8, mask: u8, out: &mut [u8]) -> Result<u16, Refus
         × (out.new ≡ list_out (mask_refusal key j mask) out.old (mask_points key j mask)) }
 {
     mask_refusal(key, j, mask)?;
+    let key = Key::new(key).unwrap();
     let found = mask_points(key, j, mask);
     hand_out(found.as_slice(), found.len() as u16, out)
 }

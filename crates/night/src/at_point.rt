@@ -1,6 +1,7 @@
 // What is asked at each point, occupied ones too: both verdicts, and for each colour the four eyes and the rows of each kind through it.
+use super::same_page;
 use board::Board;
-use records::{answer, holds, word};
+use records::{answer, word};
 
 pub(crate) fn ask_points(before: u32, board: Board, cells: &[u8]) -> u32 {
     let mut t = before;
@@ -45,10 +46,4 @@ fn same_rows(board: Board, cells: &[u8], code: u8, colour: u8, kind: u8) -> bool
     let count = word(lists::rows_on(board, code, colour, kind, &mut page));
     let told = word(second::rows_on(cells, code, colour, kind, &mut other));
     count == told && same_page(&page, &other)
-}
-
-// Every byte of the two, behind the lists too. The reference to an array gives its length, which the array itself has lost once it was
-// lent.
-fn same_page(page: &[u8; 240], other: &[u8; 240]) -> bool {
-    holds(page, other)
 }

@@ -20,7 +20,7 @@ ghost use Rattle.records.specs.Tallies.{total};
 use at_point::ask_points;
 use board::Board;
 use on_board::{ask_forbidden, ask_rows};
-use records::{at_most_one, read_records, room, sum};
+use records::{at_most_one, holds, read_records, room, sum};
 use rules::Refusal;
 use text::read_cells;
 
@@ -79,6 +79,12 @@ fn ask_all(board: Board, cells: &[u8]) -> u32 {
     let black = ask_rows(t, board, cells, 1);
     let white = ask_rows(black, board, cells, 2);
     ask_forbidden(white, board, cells)
+}
+
+// Whether two pages are the same, every byte, behind the lists too. The reference to an array gives its length, which the array itself has
+// lost once it was lent.
+fn same_page<const N: usize>(page: &[u8; N], other: &[u8; N]) -> bool {
+    holds(page, other)
 }
 
 // A line's questions are counted with those before.

@@ -1,6 +1,7 @@
 // What is asked of a board as a whole: the rows of each kind, and the forbidden points.
+use super::same_page;
 use board::Board;
-use records::{answer, holds, word};
+use records::{answer, word};
 
 pub(crate) fn ask_rows(before: u32, board: Board, cells: &[u8], colour: u8) -> u32 {
     let mut t = before;
@@ -28,10 +29,4 @@ fn same_forbidden(board: Board, cells: &[u8]) -> bool {
     let count = word(referee::forbidden_points(board, &mut page));
     let told = word(second::forbidden_points(cells, &mut other));
     count == told && same_page(&page, &other)
-}
-
-// Every byte of the two, behind the lists too. The reference to an array gives its length, which the array itself has lost once it was
-// lent.
-fn same_page(page: &[u8; 4320], other: &[u8; 4320]) -> bool {
-    holds(page, other)
 }

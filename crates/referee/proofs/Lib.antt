@@ -20,3 +20,5 @@ pub mod Ruled
 pub mod Seen
 -- the trial stone on a lent board: where it may be put, and that the board is as it was
 pub mod Trial
+-- a number that was made a bounded one, and an answer that is not refused
+pub mod Bounded

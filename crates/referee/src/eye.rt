@@ -4,30 +4,35 @@ ghost use Rattle.rules.specs.Grid.{rows_through};
 ghost use Rattle.rules.specs.Forbidden.{eye_of};
 ghost use Rattle.rules.specs.declared.Player.TheVariants.{Black};
 ghost use Rattle.rules.specs.declared.RowKind.TheVariants.{Three};
-ghost use Rattle.point.specs.Places.{addresses};
 ghost use Rattle.grid.specs.Lines.{cells_of, Sound};
 
 use grid::mask_on;
 use near::first_gap;
-use point::{address_by, step_in};
-use rules::Player;
+use point::{Table, address_by, step_in};
+use rules::{Below, Code, Player};
 
-// Of the Three through a point that has this number: the first gap in Black's stones from its start on.
-pub(crate) fn eye_on(lines: &[u16; 144], table: &[u16; 900], code: u8, three: u8) -> u8
-    requires { Sound lines.now × (code < 225) × (three < 64)
-        × T (rows_through Black Three (cells_of lines.now) code (three / 16) (three % 16)) × (table.now ≡ addresses) }
-    ensures { result ≡ eye_of (cells_of lines.now) code (three / 16) (three % 16) }
+// A Three through a point by its number: 16 times the direction, and the cell where it starts.
+pub type Three = Below<64>;
+
+// Of the Three through a point that has this number: the first gap in Black's stones from its start on. (Any lines may be asked; of those
+// that are not sound nothing is said.)
+pub fn eye_on(lines: &[u16; 144], table: &Table, code: Code, three: Three) -> u8
+    ensures { Sound lines.now → T (rows_through Black Three (cells_of lines.now) code (three / 16) (three % 16))
+        → result ≡ eye_of (cells_of lines.now) code (three / 16) (three % 16) }
 {
-    let d = three / 16;
-    let here = address_by(table, d, code);
-    let gap = first_gap(mask_on(lines, here.key, Player::Black), three % 16);
-    walked(code, here.cell, step_in(d), gap)
+    let p = code.get();
+    let start = three.get();
+    let d = start / 16;
+    let here = address_by(table.numbers(), d, p);
+    let gap = first_gap(mask_on(lines, here.key, Player::Black), start % 16);
+    walked(p, here.cell, step_in(d), gap)
 }
 
-// From a point back to its line's first cell, and on to another cell.
+// From a point back to its line's first cell, and on to another cell. The sums wrap, which on sound lines none does.
 fn walked(code: u8, cell: u8, step: u8, to: u8) -> u8
-    requires { (cell * step ≤ code) × (to * step ≤ 224) × (code - cell * step + to * step < 225) }
-    ensures { result ≡ code - cell * step + to * step }
+    ensures { cell * step ≤ code → to * step ≤ 224 → code - cell * step + to * step < 225
+        → result ≡ code - cell * step + to * step }
 {
-    code - cell * step + to * step
+    code.wrapping_sub(cell.wrapping_mul(step))
+        .wrapping_add(to.wrapping_mul(step))
 }

@@ -16,7 +16,7 @@ use board::Board;
 use cells::{cells_refusal, cells_refusal_at};
 use grid::{cell_on, cells_on};
 use lent::hand_out;
-use rules::{Refusal, Verdict, unless};
+use rules::{Code, Refusal, Verdict, unless};
 
 // The plain verdict at an empty point.
 #[tactic(auto, unfolding(rules::specs::Answers::answer))]
@@ -25,7 +25,7 @@ pub fn forbidden(board: Board, code: u8) -> Result<Verdict, Refusal>
 {
     forbidden_refusal(board, code)?;
     let mut lines = board.lines;
-    Ok(plain_on(&mut lines, code))
+    Ok(plain_on(&mut lines, Code::new(code).unwrap()))
 }
 
 // The strict verdict: none at an occupied point, and where the stone completes a five.
@@ -43,7 +43,7 @@ pub fn forbidden_strict_of(cells: &[u8], code: u8) -> Result<Verdict, Refusal>
     ensures { result ≡ answer (cells_refusal_at cells.now code) (strict_of cells.now code) }
 {
     cells_refusal_at(cells, code)?;
-    Ok(strict_of(cells, code))
+    Ok(strict_of(cells, Code::new(code).unwrap()))
 }
 
 // Whether the point is empty and a double three for Black, whatever other kind it is.

@@ -1,16 +1,17 @@
 // What is known of the Threes through a stone before any nested question: one look at the rows through each eye tells most of them.
-ghost use Rattle.std.specs.Prelude.{◌≡◌, not, ◌||◌, cond, ◌+◌, ◌*◌, ◌/◌, ◌%◌, ◌<◌, T, eqb};
+ghost use Rattle.std.specs.Prelude.{◌≡◌, not, ◌||◌, cond, ◌+◌, ◌*◌, ◌/◌, ◌%◌, T, eqb};
 ghost use Rattle.rules.specs.Grid.{start_masks, starts_of, numbered, next_from, rows_through};
 ghost use Rattle.rules.specs.Forbidden.{some_row, more_than_one};
 ghost use Rattle.rules.specs.declared.Player.TheVariants.{Black};
 ghost use Rattle.rules.specs.declared.RowKind.TheVariants.{Three};
-ghost use Rattle.point.specs.Places.{addresses};
 ghost use Rattle.grid.specs.Lines.{cells_of, Sound};
 ghost use Rattle.referee.specs.Referee.{KnownOf};
 
-use super::eye::eye_on;
+use super::eye::{Three, eye_on};
 use super::rows::rows_on;
 use near::{Rows, more_than_one, next_start, set_start, some_row};
+use point::Table;
+use rules::Code;
 
 // The Threes that are real for sure, and those that are left: all but the ones that are not real.
 #[derive(Clone, Copy)]
@@ -58,9 +59,8 @@ pub(crate) fn next_unless(told: bool, starts: [u16; 4], from: u8) -> u8
 }
 
 // The looks at the eyes of the Threes through a stone, in order, until it is known.
-pub(crate) fn looked_at(lines: &[u16; 144], table: &[u16; 900], code: u8, threes: [u16; 4]) -> Known
-    requires { Sound lines.now × (code < 225) × (threes ≡ start_masks (rows_through Black Three (cells_of lines.now) code))
-        × (table.now ≡ addresses) }
+pub(crate) fn looked_at(lines: &[u16; 144], table: &Table, code: Code, threes: [u16; 4]) -> Known
+    requires { Sound lines.now × (threes ≡ start_masks (rows_through Black Three (cells_of lines.now) code)) }
     ensures { KnownOf (cells_of lines.now) code result.sure result.left }
 {
     let mut known = Known {
@@ -70,7 +70,7 @@ pub(crate) fn looked_at(lines: &[u16; 144], table: &[u16; 900], code: u8, threes
     // stays: the next Three is looked for by its bit, and none is left once it is told
     let mut three = next_start(threes, 0);
     while three < 64 {
-        known = looked(lines, table, code, three, known);
+        known = looked(lines, table, code, Three::new(three).unwrap(), known);
         three = next_unless(is_told(known), threes, three + 1);
     }
     known
@@ -78,21 +78,20 @@ pub(crate) fn looked_at(lines: &[u16; 144], table: &[u16; 900], code: u8, threes
 
 // One look: a Three is not real where its eye completes a five, or where the verdict there is a kind that no trial tells. It is real where
 // no trial can tell one. What is left is open.
-fn looked(lines: &[u16; 144], table: &[u16; 900], code: u8, three: u8, known: Known) -> Known
-    requires { Sound lines.now × (code < 225) × (three < 64)
-        × T (rows_through Black Three (cells_of lines.now) code (three / 16) (three % 16)) × (table.now ≡ addresses)
+fn looked(lines: &[u16; 144], table: &Table, code: Code, three: Three, known: Known) -> Known
+    requires { Sound lines.now × T (rows_through Black Three (cells_of lines.now) code (three / 16) (three % 16))
         × KnownOf (cells_of lines.now) code known.sure known.left }
     ensures { KnownOf (cells_of lines.now) code result.sure result.left }
 {
-    let eye = eye_on(lines, table, code, three);
+    let eye = Code::new(eye_on(lines, table, code, three)).unwrap();
     let rows = rows_on(lines, table, eye);
     if is_shut(rows) {
-        return settled(known, three, false);
+        return settled(known, three.get(), false);
     }
     if more_than_one(rows.twos) {
         return known;
     }
-    settled(known, three, true)
+    settled(known, three.get(), true)
 }
 
 // A five, an overline or a double four by the rows through a point.

@@ -13,9 +13,11 @@ mod ruling;
 mod single;
 mod thin;
 
+pub use eye::{Three, eye_on};
 pub use front::{
     forbidden, forbidden_points, forbidden_points_of, forbidden_strict, forbidden_strict_of,
     is_double_three,
 };
+pub use rows::rows_on;
 pub use ruling::{Ruling, ruling_of};
 pub use thin::{forbidden_strict_in, is_double_three_in};

@@ -1,7 +1,6 @@
 // The forbidden list, collected: a point is asked about where what is seen of all points at once leaves something to ask.
-ghost use Rattle.std.specs.Prelude.{◌≡◌, ◌<◌, T};
+ghost use Rattle.std.specs.Prelude.{◌≡◌, T};
 ghost use Rattle.rules.specs.Forbidden.{strict_of, forbidden_list};
-ghost use Rattle.point.specs.Places.{addresses};
 ghost use Rattle.grid.specs.Lines.{lines_of};
 ghost use Rattle.sweep.specs.Marks.{marks, asked_at};
 ghost use Rattle.referee.specs.Referee.{columns_of};
@@ -11,8 +10,8 @@ use super::cycle::strict;
 use super::single::{asked_of, lines_if, rows_of};
 use lent::Kept;
 use masks::bit_at;
-use point::addresses;
-use rules::Verdict;
+use point::Table;
+use rules::{Code, Verdict};
 use sweep::{is_marked, marked_columns, sweep_points};
 
 // Each point whose strict verdict is a kind, ascending: at most 225 pairs of a kind and a code.
@@ -25,7 +24,7 @@ pub(crate) fn forbidden_pairs(cells: &[u8]) -> Kept<450>
     if columns == 0 {
         return Kept::new();
     }
-    let table = addresses();
+    let table = Table::new();
     let built = are_many(columns);
     let mut lines = lines_if(built, cells, &table);
     asked_pairs(cells, &mut lines, &table, built, &asked, columns)
@@ -41,13 +40,13 @@ fn are_many(columns: u16) -> bool {
 fn asked_pairs(
     cells: &[u8],
     lines: &mut [u16; 144],
-    table: &[u16; 900],
+    table: &Table,
     built: bool,
     asked: &[u16; 26],
     columns: u16,
 ) -> Kept<450>
     requires { Cells cells.now × (T built → lines.old ≡ lines_of cells.now) × (asked.now ≡ marks (asked_at cells.now))
-        × (columns ≡ columns_of asked.now) × (table.now ≡ addresses) }
+        × (columns ≡ columns_of asked.now) }
     ensures { result ≡ forbidden_list cells.now }
 {
     let mut found = Kept::new();
@@ -55,7 +54,8 @@ fn asked_pairs(
         if bit_at(columns, x) {
             for y in 0..15u8 {
                 let code = 15 * x + y;
-                let verdict = verdict_at(cells, lines, table, built, asked, code);
+                let point = Code::new(code).unwrap();
+                let verdict = verdict_at(cells, lines, table, built, asked, point);
                 if !verdict.is_none() {
                     found.keep(&[verdict.number(), code]);
                 }
@@ -69,16 +69,16 @@ fn asked_pairs(
 fn verdict_at(
     cells: &[u8],
     lines: &mut [u16; 144],
-    table: &[u16; 900],
+    table: &Table,
     built: bool,
     asked: &[u16; 26],
-    code: u8,
+    code: Code,
 ) -> Verdict
-    requires { Cells cells.now × (code < 225) × (T built → lines.old ≡ lines_of cells.now)
-        × (asked.now ≡ marks (asked_at cells.now)) × (table.now ≡ addresses) }
+    requires { Cells cells.now × (T built → lines.old ≡ lines_of cells.now)
+        × (asked.now ≡ marks (asked_at cells.now)) }
     ensures { (result ≡ strict_of cells.now code) × (lines.new ≡ lines.old) }
 {
-    if is_marked(asked, code) {
+    if is_marked(asked, code.get()) {
         if built {
             return strict(lines, table, code);
         }

@@ -9,8 +9,8 @@ ghost use Rattle.board.specs.Boards.{board_with, refusal_at};
 use super::cycle::strict;
 use board::refusal_on;
 use grid::cell_on;
-use point::{addresses, code_refusal};
-use rules::{Refusal, Verdict};
+use point::{Table, code_refusal};
+use rules::{Code, Refusal, Verdict};
 
 // The strict verdict, or a refusal; either way the lines are as they were.
 #[tactic(auto, unfolding(rules::specs::Answers::answer))]
@@ -25,8 +25,8 @@ pub(crate) fn strict_on(
         × (lines.new ≡ lines.old) }
 {
     refusal_at(lines, blacks, whites, code)?;
-    let table = addresses();
-    Ok(strict(lines, &table, code))
+    let table = Table::new();
+    Ok(strict(lines, &table, Code::new(code).unwrap()))
 }
 
 // Whether a stone may be tried there, which it may at an empty point, or a refusal. Nothing is written; the lines are lent as a thin

@@ -1,42 +1,47 @@
 // Black's rows through a point of the stored lines, as four start masks for each kind.
-ghost use Rattle.std.specs.Prelude.{◌≡◌, ◌<◌, get_or};
+ghost use Rattle.std.specs.Prelude.{◌≡◌, get_or};
 ghost use Rattle.rules.specs.Forbidden.{strict_of, plain_of, real_double, black_rows};
 ghost use Rattle.near.specs.Rows.{RowsAre};
-ghost use Rattle.point.specs.Places.{addresses};
 ghost use Rattle.grid.specs.Lines.{cells_of, Sound, write_on};
 
 use super::cycle::{plain, two_real};
 use grid::{put_on, row_starts_by, stones_by};
 use near::{Rows, black_rows_near};
-use point::addresses;
-use rules::{Player, RowKind, Verdict};
+use point::Table;
+use rules::{Code, Player, RowKind, Verdict};
 
 // The four kinds that the verdict is told by.
-pub(crate) fn rows_on(lines: &[u16; 144], table: &[u16; 900], code: u8) -> Rows
-    requires { Sound lines.now × (code < 225) × (table.now ≡ addresses) }
-    ensures { RowsAre (black_rows (cells_of lines.now) code) result }
+pub fn rows_on(lines: &[u16; 144], table: &Table, code: Code) -> Rows
+    ensures { Sound lines.now → RowsAre (black_rows (cells_of lines.now) code) result }
 {
-    let stones = stones_by(lines, table, code, Player::Black);
-    black_rows_near(stones.own, stones.other, code)
+    let p = code.get();
+    let stones = stones_by(lines, table.numbers(), p, Player::Black);
+    black_rows_near(stones.own, stones.other, p)
 }
 
 // The plain verdict at an empty point.
-pub(crate) fn plain_on(lines: &mut [u16; 144], code: u8) -> Verdict
-    requires { Sound lines.old × (code < 225) × (get_or (cells_of lines.old) code 0 ≡ 0) }
+pub(crate) fn plain_on(lines: &mut [u16; 144], code: Code) -> Verdict
+    requires { Sound lines.old × (get_or (cells_of lines.old) code 0 ≡ 0) }
     ensures { (result ≡ plain_of (cells_of lines.old) code) × (lines.new ≡ lines.old) }
 {
-    let table = addresses();
+    let table = Table::new();
     let rows = rows_on(lines, &table, code);
     plain(lines, &table, code, rows)
 }
 
 // Whether more than one real Three goes through the stone at a point.
-pub(crate) fn real_on(lines: &mut [u16; 144], code: u8) -> bool
-    requires { Sound lines.old × (code < 225) }
+pub(crate) fn real_on(lines: &mut [u16; 144], code: Code) -> bool
+    requires { Sound lines.old }
     ensures { (result ≡ real_double strict_of (cells_of lines.old) code) × (lines.new ≡ lines.old) }
 {
-    let table = addresses();
-    let threes = row_starts_by(lines, &table, code, Player::Black, RowKind::Three);
+    let table = Table::new();
+    let threes = row_starts_by(
+        lines,
+        table.numbers(),
+        code.get(),
+        Player::Black,
+        RowKind::Three,
+    );
     two_real(lines, &table, code, threes)
 }
 

@@ -1,5 +1,5 @@
 // The strict verdict of cell bytes with the lines on which it was asked, for whoever asks further there.
-ghost use Rattle.std.specs.Prelude.{◌≡◌, cond, ◌<◌, Option, Some, None};
+ghost use Rattle.std.specs.Prelude.{◌≡◌, cond, Option, Some, None};
 ghost use Rattle.rules.specs.Answers.{answer};
 ghost use Rattle.grid.specs.Lines.{lines_of};
 ghost use Rattle.cells.specs.Cells.{Cells, cells_refusal_at};
@@ -9,8 +9,8 @@ use super::cycle::strict_by;
 use super::single::{lines_if, may_forbid, rows_of};
 use cells::cells_refusal_at;
 use near::more_than_one;
-use point::addresses;
-use rules::{Refusal, Verdict};
+use point::Table;
+use rules::{Code, Refusal, Verdict};
 
 // A verdict, and where a stone may have been tried for it the stored lines.
 #[derive(Clone, Copy)]
@@ -25,21 +25,22 @@ pub fn ruling_of(cells: &[u8], code: u8) -> Result<Ruling, Refusal>
     ensures { result ≡ answer (cells_refusal_at cells.now code) (ruling_of cells.now code) }
 {
     cells_refusal_at(cells, code)?;
-    Ok(ruled_of(cells, code))
+    Ok(ruled_of(cells, Code::new(code).unwrap()))
 }
 
 // .. of the cells of a board.
 #[tactic(auto, unfolding(crate::specs::Answers::ruling_of))]
-fn ruled_of(cells: &[u8], code: u8) -> Ruling
-    requires { Cells cells.now × (code < 225) }
+fn ruled_of(cells: &[u8], code: Code) -> Ruling
+    requires { Cells cells.now }
     ensures { result ≡ ruling_of cells.now code }
 {
-    if cells[code as usize] != 0 {
+    let p = code.get();
+    if cells[p as usize] != 0 {
         return untried();
     }
     let rows = rows_of(cells, code);
     if may_forbid(rows) {
-        let table = addresses();
+        let table = Table::new();
         let tried = more_than_one(rows.twos);
         let mut lines = lines_if(tried, cells, &table);
         let verdict = strict_by(&mut lines, &table, code, rows);

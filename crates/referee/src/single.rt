@@ -7,15 +7,14 @@ ghost use Rattle.rules.specs.Forbidden.{strict_of, some_row, more_than_one, blac
 ghost use Rattle.rules.specs.declared.Player.TheVariants.{Black, White};
 ghost use Rattle.near.specs.Rows.{RowsAre};
 ghost use Rattle.lent.specs.Lists.{zeros};
-ghost use Rattle.point.specs.Places.{addresses};
 ghost use Rattle.grid.specs.Lines.{lines_of};
 ghost use Rattle.cells.specs.Cells.{Cells};
 
 use super::cycle::strict_by;
 use grid::lines_by;
 use near::{Rows, more_than_one, rows_near, some_row};
-use point::{addresses, cell_no, line_no, line_size, step_in};
-use rules::Verdict;
+use point::{Table, cell_no, line_no, line_size, step_in};
+use rules::{Code, Verdict};
 
 // The masks of one line.
 #[derive(Clone, Copy)]
@@ -25,16 +24,17 @@ struct LineCells {
 }
 
 // The strict verdict. Where no kind may apply it is none: that is seen first, so that neither the table nor room for lines is laid out.
-pub(crate) fn strict_of(cells: &[u8], code: u8) -> Verdict
-    requires { Cells cells.now × (code < 225) }
+pub(crate) fn strict_of(cells: &[u8], code: Code) -> Verdict
+    requires { Cells cells.now }
     ensures { result ≡ strict_of cells.now code }
 {
-    if cells[code as usize] != 0 {
+    let p = code.get();
+    if cells[p as usize] != 0 {
         return Verdict::None;
     }
     let rows = rows_of(cells, code);
     if may_forbid(rows) {
-        let table = addresses();
+        let table = Table::new();
         return asked_of(cells, &table, code, rows);
     }
     Verdict::None
@@ -42,9 +42,8 @@ pub(crate) fn strict_of(cells: &[u8], code: u8) -> Verdict
 
 // .. at an empty point, by Black's rows through it. Lines are built only where more than one Two may lead to a trial, by the table that the
 // trial then reads.
-pub(crate) fn asked_of(cells: &[u8], table: &[u16; 900], code: u8, rows: Rows) -> Verdict
-    requires { Cells cells.now × (code < 225) × (get_or cells.now code 0 ≡ 0) × RowsAre (black_rows cells.now code) rows
-        × (table.now ≡ addresses) }
+pub(crate) fn asked_of(cells: &[u8], table: &Table, code: Code, rows: Rows) -> Verdict
+    requires { Cells cells.now × (get_or cells.now code 0 ≡ 0) × RowsAre (black_rows cells.now code) rows }
     ensures { result ≡ strict_of cells.now code }
 {
     let mut lines = lines_if(more_than_one(rows.twos), cells, table);
@@ -52,12 +51,11 @@ pub(crate) fn asked_of(cells: &[u8], table: &[u16; 900], code: u8, rows: Rows) -
 }
 
 // The stored lines, where they are wanted.
-pub(crate) fn lines_if(wanted: bool, cells: &[u8], table: &[u16; 900]) -> [u16; 144]
-    requires { table.now ≡ addresses }
+pub(crate) fn lines_if(wanted: bool, cells: &[u8], table: &Table) -> [u16; 144]
     ensures { result ≡ cond wanted (lines_of cells.now) (zeros 144) }
 {
     if wanted {
-        return lines_by(cells, table);
+        return lines_by(cells, table.numbers());
     }
     [0; 144]
 }
@@ -72,8 +70,8 @@ pub(crate) fn may_forbid(rows: Rows) -> bool
 }
 
 // Black's rows through a point of the cells.
-pub(crate) fn rows_of(cells: &[u8], code: u8) -> Rows
-    requires { Cells cells.now × (code < 225) }
+pub(crate) fn rows_of(cells: &[u8], code: Code) -> Rows
+    requires { Cells cells.now }
     ensures { RowsAre (black_rows cells.now code) result }
 {
     let v = read_along(cells, 0, code);
@@ -83,22 +81,23 @@ pub(crate) fn rows_of(cells: &[u8], code: u8) -> Rows
     rows_near(
         [v.blacks, h.blacks, a.blacks, d.blacks],
         [v.whites, h.whites, a.whites, d.whites],
-        code,
+        code.get(),
         true,
     )
 }
 
 // The stones on the line through a point in one direction, cell by cell from the last one back: each moves on what was read before it.
 // Black stones are in the low half of one number, white ones in the high half.
-fn read_along(cells: &[u8], d: u8, code: u8) -> LineCells
-    requires { Cells cells.now × (code < 225) × (d < 4) }
+fn read_along(cells: &[u8], d: u8, code: Code) -> LineCells
+    requires { Cells cells.now × (d < 4) }
     ensures { (result.blacks ≡ mask_of 16 (stone_at Black cells.now d (line_no d code)))
         × (result.whites ≡ mask_of 16 (stone_at White cells.now d (line_no d code))) }
 {
-    let size = line_size(d, line_no(d, code));
+    let point = code.get();
+    let size = line_size(d, line_no(d, point));
     let step = step_in(d) as usize;
-    let back = (cell_no(d, code) as usize) * step;
-    let mut p = (code as usize) - back + (size as usize) * step;
+    let back = (cell_no(d, point) as usize) * step;
+    let mut p = (point as usize) - back + (size as usize) * step;
     let mut both = 0u32;
     for _ in 0..size {
         p -= step;

@@ -12,7 +12,7 @@ use super::on_lines::{may_try, strict_on};
 use super::rows::{put_black, real_on};
 use board::Board;
 use grid::remove_on;
-use rules::{Refusal, Verdict};
+use rules::{Code, Refusal, Verdict};
 
 // Black's trial stone put on a lent board, at an empty point: Black has one stone more.
 pub(crate) fn put_in(b: &mut Board, code: u8)
@@ -28,7 +28,7 @@ pub(crate) fn ask_in(b: &mut Board, code: u8) -> bool
     requires { Sound b.old.lines × (code < 225) }
     ensures { (result ≡ real_double strict_of (cells b.old) code) × (b.new ≡ b.old) }
 {
-    real_on(&mut b.lines, code)
+    real_on(&mut b.lines, Code::new(code).unwrap())
 }
 
 // The stone taken off again: Black has one less.

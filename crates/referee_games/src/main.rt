@@ -67,13 +67,16 @@ fn report_line<R: Print>(rt: &R, line: &[u8]) -> Result<bool, Refusal> {
     let n = read_points(line, &mut codes)?;
     let moves = head(&codes, n as usize);
     let report = referee_game(moves)?;
-    let faulty = report.number != 0;
-    if faulty {
-        say_fault(rt, &report, byte_at(moves, (report.number - 1) as usize));
-    } else {
-        say_winner(rt, report.winner);
+    match report.fault {
+        Some(fault) => say_fault(
+            rt,
+            fault,
+            report.board,
+            byte_at(moves, fault.number.saturating_sub(1) as usize),
+        ),
+        None => say_winner(rt, report.winner),
     }
-    Ok(faulty)
+    Ok(report.fault.is_some())
 }
 
 fn counted(before: Tally, faulty: u64, refused: u64) -> Tally

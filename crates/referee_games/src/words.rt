@@ -2,19 +2,18 @@
 use super::Tally;
 use board::Board;
 use display::point_label;
-use game::{GameReport, Reason, Winner};
+use game::{Fault, Reason};
 use referee::forbidden_strict;
-use rules::Refusal;
+use rules::{Player, Refusal};
 
 // `move 9 (H8): forbidden, DoubleThree`: the point is that of the faulty move.
-pub(crate) fn say_fault<R: Print>(rt: &R, report: &GameReport, code: u8) {
-    let _ = print!(rt; "move {} (", report.number);
+pub(crate) fn say_fault<R: Print>(rt: &R, fault: Fault, board: Board, code: u8) {
+    let _ = print!(rt; "move {} (", fault.number);
     let _ = rt.write_all(point_label(code).as_slice());
     let _ = print!(rt; "): ");
-    match report.reason {
-        Reason::None => say_line(rt, "no fault"),
+    match fault.reason {
         Reason::Occupied => say_line(rt, "occupied"),
-        Reason::Forbidden => say_kind(rt, report.board, code),
+        Reason::Forbidden => say_kind(rt, board, code),
         Reason::AfterFive => say_line(rt, "after a five"),
     }
 }
@@ -34,11 +33,11 @@ fn say_kind<R: Print>(rt: &R, board: Board, code: u8) {
     }
 }
 
-pub(crate) fn say_winner<R: Print>(rt: &R, winner: Winner) {
+pub(crate) fn say_winner<R: Print>(rt: &R, winner: Option<Player>) {
     let name = match winner {
-        Winner::None => "nobody",
-        Winner::Black => "Black",
-        Winner::White => "White",
+        Some(Player::Black) => "Black",
+        Some(Player::White) => "White",
+        None => "nobody",
     };
     let _ = println!(rt; "no fault, {name} has won");
 }

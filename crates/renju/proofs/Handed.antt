@@ -3,14 +3,14 @@
 use mathlib.Core.Path.{◌≡◌, refl, sym, ap, ap₂, ◌∙◌}
 use mathlib.Core.Bool.{Bool, true, false}
 use mathlib.Core.List.{List, [], ◌++◌}
-use Prim.Native.Nat.{ℕ, zero, suc, ◌+◌, ◌-◌, ◌≤◌, ◌<◌}
+use Prim.Native.Nat.{ℕ, zero, suc, ◌-◌, ◌<◌}
 use native.Mathlib.Omega.{arith}
 use lib.Dec.{eqb, leb, ltb}
-use lib.ListN.{length, get_or, take, length-append, length-take}
+use lib.ListN.{length, get_or, take, length-take}
 use lib.Seq.{get_or-take}
 use borrow.Author.Tests.{lt-ltb, eqb-false}
-use Rattle.std.specs.Prelude.{Result, Ok, Err}
-use Rattle.rules.specs.Refusals.{many_moves, unless, first}
+use Rattle.std.specs.Prelude.{Option, Result, Ok, Err}
+use Rattle.rules.specs.Refusals.{many_moves, unless}
 use Rattle.rules.specs.Answers.{answer, checked, refusal_named}
 use Rattle.rules.specs.declared.refusal.Refusal.{Refusal}
 use Rattle.rules.specs.Tools.{all_below}
@@ -21,9 +21,10 @@ use Rattle.lent.proofs.Laws.{kept_lem, kept_out}
 use Rattle.cells.specs.Cells.{codes_refusal, moves_refusal, moves_cells}
 use Rattle.cells.proofs.Given.{moves-in}
 use Rattle.game.specs.Game.{report_of}
-use Rattle.game.specs.Answers.{reported}
+use Rattle.game.specs.Answers.{fault_no, fault_reason, reported}
+use Rattle.game.specs.declared.report.Reason.{Reason}
 use Rattle.game.specs.declared.report.GameReport.{GameReport}
-use Rattle.game.proofs.Faults.{no-fault-board, fault-board}
+use Rattle.game.proofs.Faults.{no-fault-board, fault-board, fault-numbered, fault-reasoned}
 use Rattle.renju.proofs.Words.{told_err, told_ok}
 use Rattle.renju.specs.Games.{standing, report_bytes, game_bytes}
 
@@ -62,14 +63,23 @@ never-refused moves n e ea told =
 
 -- ---- the bytes of a report
 
+-- the number that is handed out is the report's
+pub number-given : (moves : List ℕ) {report : GameReport} → report ≡ reported (report_of moves)
+    → fault_no report.fault ≡ (report_of moves).number
+unfolding reported
+number-given moves e = ap (λ (r : GameReport). fault_no r.fault) e ∙ fault-numbered moves
+
 pub bytes-given : (moves : List ℕ) {report : GameReport} {cells : List ℕ} → report ≡ reported (report_of moves)
-    → cells ≡ moves_cells (standing report.number moves)
-    → report_bytes report.number report.reason report.winner cells ≡ game_bytes moves
+    → cells ≡ moves_cells (standing (fault_no report.fault) moves)
+    → report_bytes (fault_no report.fault) (fault_reason report.fault) report.winner cells ≡ game_bytes moves
 unfolding game_bytes reported
 bytes-given moves {report} {cells} e ec =
-    let number : (report_of moves).number ≡ report.number = ap (λ (r : GameReport). r.number) (sym e) in
-    ap (report_bytes report.number report.reason report.winner) (ec ∙ sym (report-cells moves report.number number))
-    ∙ ap (λ (r : GameReport). report_bytes r.number r.reason r.winner (report_of moves).cells) e
+    let number : (report_of moves).number ≡ fault_no report.fault = sym (number-given moves e) in
+    ap (report_bytes (fault_no report.fault) (fault_reason report.fault) report.winner)
+    (ec ∙ sym (report-cells moves (fault_no report.fault) number))
+    ∙ ap (λ (r : GameReport). report_bytes (fault_no r.fault) (fault_reason r.fault) r.winner (report_of moves).cells) e
+    ∙ ap₂ (λ (n : ℕ) (why : Option Reason). report_bytes n why (report_of moves).winner (report_of moves).cells) (fault-numbered moves)
+    (fault-reasoned (report_of moves).number (report_of moves).reason)
 
 -- three bytes and 225 cells, kept one after the other
 pub bytes-kept : (head tail : List ℕ) {none one all : List ℕ} → length head ≡ 3 → length tail ≡ 225 → none ≡ [] → one ≡ kept 228 none head

@@ -1,11 +1,11 @@
 -- The bytes that a game's report is handed out as.
-use Rattle.std.specs.Prelude.{List, ◌∷◌, ℕ, zero, suc, take}
+use Rattle.std.specs.Prelude.{List, ◌∷◌, ℕ, zero, suc, take, Option}
+use Rattle.rules.specs.declared.Player.{Player}
 use Rattle.game.specs.Game.{reason_no, winner_no, report_of}
 use Rattle.game.specs.declared.report.Reason.{Reason}
-use Rattle.game.specs.declared.report.Winner.{Winner}
 
 -- "228 bytes: that number, the reason 0 to 3, the winner 0 to 2, the 225 cells"
-abbrev pub report_bytes : ℕ → Reason → Winner → List ℕ → List ℕ
+abbrev pub report_bytes : ℕ → Option Reason → Option Player → List ℕ → List ℕ
 report_bytes n why won cells = n ∷ reason_no why ∷ winner_no won ∷ cells
 
 -- of the moves

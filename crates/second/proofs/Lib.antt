@@ -5,6 +5,8 @@ pub mod Walks
 pub mod Counted
 -- rows counted start by start
 pub mod Tallied
+-- numbers made of a type that bounds them
+pub mod Bounded
 -- the steps of the questions
 pub mod Asked
 -- keys, and the first points of their lines

@@ -15,7 +15,7 @@ use super::refusal::{colour_refusal_at, forbidden_refusal, rows_refusal, rows_re
 use super::verdict::{plain, strict};
 use cells::{cells_refusal, cells_refusal_at};
 use lent::hand_out;
-use rules::{Player, Refusal, RowKind, Verdict};
+use rules::{Code, Player, Refusal, RowKind, Verdict};
 
 // The colour's rows of a kind, by key, then start, four bytes each; and how many there are.
 pub fn rows(cells: &[u8], colour: u8, kind: u8, out: &mut [u8]) -> Result<u16, Refusal>
@@ -45,7 +45,7 @@ pub fn rows_on(cells: &[u8], code: u8, colour: u8, kind: u8, out: &mut [u8]) -> 
     let board = board_of(cells);
     let found = point_rows(
         &board,
-        code,
+        Code::new(code).unwrap(),
         Player::or_white(colour),
         RowKind::or_overlined(kind),
     );
@@ -61,7 +61,7 @@ pub fn four_eyes_on(cells: &[u8], code: u8, colour: u8, out: &mut [u8]) -> Resul
 {
     colour_refusal_at(cells, code, colour)?;
     let board = board_of(cells);
-    let found = four_eyes(&board, code, Player::or_white(colour));
+    let found = four_eyes(&board, Code::new(code).unwrap(), Player::or_white(colour));
     hand_out(found.as_slice(), found.len() as u16, out)
 }
 
@@ -72,7 +72,7 @@ pub fn forbidden(cells: &[u8], code: u8) -> Result<Verdict, Refusal>
 {
     forbidden_refusal(cells, code)?;
     let mut board = board_of(cells);
-    Ok(plain(&mut board, code))
+    Ok(plain(&mut board, Code::new(code).unwrap()))
 }
 
 // The strict verdict: none at an occupied point, and where the stone completes a five.
@@ -82,7 +82,7 @@ pub fn forbidden_strict(cells: &[u8], code: u8) -> Result<Verdict, Refusal>
 {
     cells_refusal_at(cells, code)?;
     let mut board = board_of(cells);
-    Ok(strict(&mut board, code))
+    Ok(strict(&mut board, Code::new(code).unwrap()))
 }
 
 // The forbidden points, two bytes each, the kind and the code, by ascending code; and how many there are.

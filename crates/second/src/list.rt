@@ -11,8 +11,9 @@ use super::line::{point_along, size_along};
 use super::row::{is_eye, is_row, is_through};
 use super::row_bytes::row_bytes;
 use super::verdict::strict;
+use super::window::Start;
 use lent::Kept;
-use rules::{Player, RowKind};
+use rules::{Code, Key, Player, RowKind, Way};
 
 // The player's rows of the kind, at most 72 lines of 15 starts, four bytes a row. "Rows come by line key, then start".
 pub(crate) fn all_rows(board: &[u8; 225], player: Player, kind: RowKind) -> Kept<4320>
@@ -20,6 +21,7 @@ pub(crate) fn all_rows(board: &[u8; 225], player: Player, kind: RowKind) -> Kept
 {
     let mut list = Kept::new();
     for key in 0..72u8 {
+        let key = Key::new(key).unwrap();
         keep_rows(
             board,
             key_direction(key),
@@ -34,12 +36,12 @@ pub(crate) fn all_rows(board: &[u8; 225], player: Player, kind: RowKind) -> Kept
 }
 
 // Those through a point, line by line, at most 4 lines of 15 starts.
-pub(crate) fn point_rows(board: &[u8; 225], code: u8, player: Player, kind: RowKind) -> Kept<240>
-    requires { code < 225 }
+pub(crate) fn point_rows(board: &[u8; 225], code: Code, player: Player, kind: RowKind) -> Kept<240>
     ensures { result ≡ rows_on_point player kind board.now code }
 {
     let mut list = Kept::new();
     for d in 0..4u8 {
+        let d = Way::new(d).unwrap();
         keep_rows(board, d, code, player, kind, true, &mut list);
     }
     list
@@ -49,18 +51,19 @@ pub(crate) fn point_rows(board: &[u8; 225], code: u8, player: Player, kind: RowK
 // stays: a closure in place of `only_through` needs clauses of its own, and reads no plainer
 fn keep_rows<const N: usize>(
     board: &[u8; 225],
-    d: u8,
-    code: u8,
+    d: Way,
+    code: Code,
     player: Player,
     kind: RowKind,
     only_through: bool,
     list: &mut Kept<N>,
 )
-    requires { (d < 4) × (code < 225) × (length list.old + 60 ≤ N) }
+    requires { length list.old + 60 ≤ N }
     ensures { list.new ≡ list.old ++ line_rows player kind board.now d (line_no d code)
         (rows_asked player kind board.now code d only_through) }
 {
     for j in 0..size_along(d, code) {
+        let j = Start::new(j).unwrap();
         if is_asked(board, d, code, player, kind, only_through, j) {
             list.keep(&row_bytes(board, d, code, player, kind, j));
         }
@@ -70,14 +73,13 @@ fn keep_rows<const N: usize>(
 // Whether a row starts at cell j and is asked for.
 fn is_asked(
     board: &[u8; 225],
-    d: u8,
-    code: u8,
+    d: Way,
+    code: Code,
     player: Player,
     kind: RowKind,
     only_through: bool,
-    j: u8,
+    j: Start,
 ) -> bool
-    requires { (d < 4) × (code < 225) × (j < 16) }
     ensures { result ≡ rows_asked player kind board.now code d only_through j }
 {
     if only_through {
@@ -89,35 +91,35 @@ fn is_asked(
 
 // The eyes of the player's Fours through a point, at most 4 lines of 15 cells, as codes: "line by line (vertical, horizontal, ascending,
 // descending), each cell once a line, ascending."
-pub(crate) fn four_eyes(board: &[u8; 225], code: u8, player: Player) -> Kept<60>
-    requires { code < 225 }
+pub(crate) fn four_eyes(board: &[u8; 225], code: Code, player: Player) -> Kept<60>
     ensures { result ≡ four_eyes player board.now code }
 {
     let mut list = Kept::new();
     for d in 0..4u8 {
+        let d = Way::new(d).unwrap();
         keep_eyes(board, d, code, player, &mut list);
     }
     list
 }
 
 // Those on one line.
-fn keep_eyes(board: &[u8; 225], d: u8, code: u8, player: Player, list: &mut Kept<60>)
-    requires { (d < 4) × (code < 225) × (length list.old + 15 ≤ 60) }
+fn keep_eyes(board: &[u8; 225], d: Way, code: Code, player: Player, list: &mut Kept<60>)
+    requires { length list.old + 15 ≤ 60 }
     ensures { list.new ≡ list.old ++ eyes_in player board.now code d }
 {
     for i in 0..size_along(d, code) {
         if is_four_eye(board, d, code, player, i) {
-            list.keep(&[point_along(d, code, i)]);
+            list.keep(&[point_along(d, code, i).get()]);
         }
     }
 }
 
 // Whether cell i of the line is an eye of some Four of the player's through the point.
-fn is_four_eye(board: &[u8; 225], d: u8, code: u8, player: Player, i: u8) -> bool
-    requires { (d < 4) × (code < 225) }
+fn is_four_eye(board: &[u8; 225], d: Way, code: Code, player: Player, i: u8) -> bool
     ensures { result ≡ four_eye player board.now code d i }
 {
     for j in 0..16u8 {
+        let j = Start::new(j).unwrap();
         if is_through(board, d, code, player, RowKind::Four, j)
             && is_eye(board, d, code, player, RowKind::Four, j, i)
         {
@@ -134,7 +136,7 @@ pub(crate) fn forbidden_pairs(board: &mut [u8; 225]) -> Kept<450>
 {
     let mut list = Kept::new();
     for p in 0..225u8 {
-        let verdict = strict(board, p);
+        let verdict = strict(board, Code::new(p).unwrap());
         if !verdict.is_none() {
             list.keep(&[verdict.number(), p]);
         }

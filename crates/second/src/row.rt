@@ -1,5 +1,5 @@
 // Section 4: rows on the line through a point, and their eyes. The quoted sentences are document 01's.
-ghost use Rattle.std.specs.Prelude.{◌≡◌, ◌<◌};
+ghost use Rattle.std.specs.Prelude.{◌≡◌, ◌<◌, ◌-◌, Some, None, cond, leb};
 ghost use Rattle.rules.specs.Numbers.{is_black};
 ghost use Rattle.rules.specs.Line.{scores, pair_at, no_stone, open_at, over_at, span, among, empty_at, eye_span};
 ghost use Rattle.rules.specs.Point.{line_no};
@@ -7,34 +7,48 @@ ghost use Rattle.rules.specs.Grid.{row_on, rows_through, eye_on};
 ghost use Rattle.second.specs.Walk.{size_along, own_along, other_along};
 
 use super::line::{cell_no, size_along};
-use super::window::{has_stone, holds, scores};
-use rules::{Player, RowKind};
+use super::window::{Start, has_stone, holds, scores};
+use rules::{Code, Player, RowKind, Way};
+
+// j−1, where there is such a cell.
+fn before(j: Start) -> Option<Start>
+    ensures { result ≡ cond (leb 1 j) (Some (j - 1)) None }
+{
+    if j.get() > 0 {
+        Start::new(j.get() - 1)
+    } else {
+        None
+    }
+}
 
 // Whether windows j−1 and j both score n.
 #[tactic(auto, unfolding(rules::specs::Line::pair_at))]
-fn both_score(board: &[u8; 225], d: u8, code: u8, player: Player, n: u8, j: u8) -> bool
-    requires { (d < 4) × (code < 225) × (j < 16) }
+fn both_score(board: &[u8; 225], d: Way, code: Code, player: Player, n: u8, j: Start) -> bool
     ensures { result ≡ pair_at (scores (is_black player) (size_along d code)
         (own_along player board.now d code)
         (other_along player board.now d code) n) j }
 {
-    j > 0 && scores(board, d, code, player, n, j - 1) && scores(board, d, code, player, n, j)
+    match before(j) {
+        Some(i) => scores(board, d, code, player, n, i) && scores(board, d, code, player, n, j),
+        None => false,
+    }
 }
 
 // "windows j−1 and j are both free and both hold 4, or both 5, counted without the dead rule"
 #[tactic(auto, unfolding(rules::specs::Line::pair_at, rules::specs::Line::over_at))]
-fn both_hold(board: &[u8; 225], d: u8, code: u8, player: Player, n: u8, j: u8) -> bool
-    requires { (d < 4) × (code < 225) × (j < 16) }
+fn both_hold(board: &[u8; 225], d: Way, code: Code, player: Player, n: u8, j: Start) -> bool
     ensures { result ≡ over_at (size_along d code) (own_along player board.now d code)
         (other_along player board.now d code) n j }
 {
-    j > 0 && holds(board, d, code, player, n, j - 1) && holds(board, d, code, player, n, j)
+    match before(j) {
+        Some(i) => holds(board, d, code, player, n, i) && holds(board, d, code, player, n, j),
+        None => false,
+    }
 }
 
 // Whether cell i holds no stone, neither the player's nor the opponent's.
 #[tactic(auto, unfolding(rules::specs::Line::no_stone))]
-fn has_none(board: &[u8; 225], d: u8, code: u8, player: Player, i: u8) -> bool
-    requires { (d < 4) × (code < 225) }
+fn has_none(board: &[u8; 225], d: Way, code: Code, player: Player, i: u8) -> bool
     ensures { result ≡ no_stone (own_along player board.now d code)
         (other_along player board.now d code) i }
 {
@@ -43,12 +57,11 @@ fn has_none(board: &[u8; 225], d: u8, code: u8, player: Player, i: u8) -> bool
 
 // "windows j−1 and j both score 2, 3, 4 and cell j+4 is empty"
 #[tactic(auto, unfolding(rules::specs::Line::open_at))]
-fn is_open(board: &[u8; 225], d: u8, code: u8, player: Player, n: u8, j: u8) -> bool
-    requires { (d < 4) × (code < 225) × (j < 16) }
+fn is_open(board: &[u8; 225], d: Way, code: Code, player: Player, n: u8, j: Start) -> bool
     ensures { result ≡ open_at (is_black player) (size_along d code) (own_along player board.now d code)
         (other_along player board.now d code) n j }
 {
-    both_score(board, d, code, player, n, j) && has_none(board, d, code, player, j + 4)
+    both_score(board, d, code, player, n, j) && has_none(board, d, code, player, j.get() + 4)
 }
 
 // Whether a row of the kind starts at cell j of the line. "Sword, Four, Five at j: score 3, 4, 5. Two, Three, Straight at j: windows j−1
@@ -57,13 +70,12 @@ fn is_open(board: &[u8; 225], d: u8, code: u8, player: Player, n: u8, j: u8) -> 
 #[tactic(auto, unfolding(rules::specs::Line::row_at, rules::specs::Grid::row_on))]
 pub(crate) fn is_row(
     board: &[u8; 225],
-    d: u8,
-    code: u8,
+    d: Way,
+    code: Code,
     player: Player,
     kind: RowKind,
-    j: u8,
+    j: Start,
 ) -> bool
-    requires { (d < 4) × (code < 225) × (j < 16) }
     ensures { result ≡ row_on player kind board.now d (line_no d code) j }
 {
     match kind {
@@ -80,11 +92,11 @@ pub(crate) fn is_row(
 
 // Whether i is one of the n cells from j on.
 #[tactic(auto, unfolding(rules::specs::Line::among))]
-fn is_among(n: u8, j: u8, i: u8) -> bool
-    requires { (n < 16) × (j < 16) }
+fn is_among(n: u8, j: Start, i: u8) -> bool
+    requires { n < 16 }
     ensures { result ≡ among n j i }
 {
-    (j <= i) && (i < j + n)
+    (j.get() <= i) && (i < j.get() + n)
 }
 
 // "i is in its window, or, for the kinds on two windows, in the four shared cells j to j+3": how many cells from j on.
@@ -98,13 +110,12 @@ fn cells_through(kind: RowKind) -> u8
 #[tactic(auto, unfolding(rules::specs::Grid::rows_through))]
 pub(crate) fn is_through(
     board: &[u8; 225],
-    d: u8,
-    code: u8,
+    d: Way,
+    code: Code,
     player: Player,
     kind: RowKind,
-    j: u8,
+    j: Start,
 ) -> bool
-    requires { (d < 4) × (code < 225) × (j < 16) }
     ensures { result ≡ rows_through player kind board.now code d j }
 {
     is_among(cells_through(kind), j, cell_no(d, code)) && is_row(board, d, code, player, kind, j)
@@ -122,8 +133,7 @@ fn cells_seen(kind: RowKind) -> u8
 
 // Whether cell i is on the line and empty.
 #[tactic(auto, unfolding(rules::specs::Line::empty_at))]
-fn is_empty(board: &[u8; 225], d: u8, code: u8, player: Player, i: u8) -> bool
-    requires { (d < 4) × (code < 225) }
+fn is_empty(board: &[u8; 225], d: Way, code: Code, player: Player, i: u8) -> bool
     ensures { result ≡ empty_at (size_along d code) (own_along player board.now d code)
         (other_along player board.now d code) i }
 {
@@ -134,14 +144,13 @@ fn is_empty(board: &[u8; 225], d: u8, code: u8, player: Player, i: u8) -> bool
 #[tactic(auto, unfolding(rules::specs::Line::is_eye, rules::specs::Grid::eye_on))]
 pub(crate) fn is_eye(
     board: &[u8; 225],
-    d: u8,
-    code: u8,
+    d: Way,
+    code: Code,
     player: Player,
     kind: RowKind,
-    j: u8,
+    j: Start,
     i: u8,
 ) -> bool
-    requires { (d < 4) × (code < 225) × (j < 16) }
     ensures { result ≡ eye_on player kind board.now d (line_no d code) j i }
 {
     is_among(cells_seen(kind), j, i) && is_empty(board, d, code, player, i)

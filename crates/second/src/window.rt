@@ -6,33 +6,33 @@ ghost use Rattle.rules.specs.Line.{inside, free, count, beside, dead, scores, ho
 ghost use Rattle.second.specs.Walk.{size_along, own_along, other_along};
 
 use super::line::{point_along, size_along};
-use rules::Player;
+use rules::{Below, Code, Player, Way};
+
+// The cell where a window starts, or where one might: no line has more than 15.
+pub(crate) type Start = Below<16>;
 
 // Whether cell i of the line holds a stone of the player's. Past the edge of the board there is none.
-pub(crate) fn has_stone(board: &[u8; 225], d: u8, code: u8, player: Player, i: u8) -> bool
-    requires { (d < 4) × (code < 225) }
+pub(crate) fn has_stone(board: &[u8; 225], d: Way, code: Code, player: Player, i: u8) -> bool
     ensures { result ≡ own_along player board.now d code i }
 {
-    i < size_along(d, code) && board[point_along(d, code, i) as usize] == player.number()
+    i < size_along(d, code) && board[point_along(d, code, i).get() as usize] == player.number()
 }
 
 // "A window at j is cells j to j+4, with j+5 at most the line's size."
 #[tactic(auto, unfolding(rules::specs::Line::inside))]
-pub(crate) fn is_inside(d: u8, code: u8, j: u8) -> bool
-    requires { (d < 4) × (code < 225) × (j < 16) }
+pub(crate) fn is_inside(d: Way, code: Code, j: Start) -> bool
     ensures { result ≡ inside (size_along d code) j }
 {
-    j + 5 <= size_along(d, code)
+    j.get() + 5 <= size_along(d, code)
 }
 
 // How many stones of the player's stand in the window at j.
-pub(crate) fn stones_in(board: &[u8; 225], d: u8, code: u8, player: Player, j: u8) -> u8
-    requires { (d < 4) × (code < 225) × (j < 16) }
+pub(crate) fn stones_in(board: &[u8; 225], d: Way, code: Code, player: Player, j: Start) -> u8
     ensures { result ≡ count (own_along player board.now d code) j }
 {
     let mut n = 0u8;
     for k in 0..5u8 {
-        if has_stone(board, d, code, player, j + k) {
+        if has_stone(board, d, code, player, j.get() + k) {
             n += 1;
         }
     }
@@ -40,8 +40,7 @@ pub(crate) fn stones_in(board: &[u8; 225], d: u8, code: u8, player: Player, j: u
 }
 
 // "It is free for a colour when it has no stone of the other."
-pub(crate) fn is_free(board: &[u8; 225], d: u8, code: u8, player: Player, j: u8) -> bool
-    requires { (d < 4) × (code < 225) × (j < 16) }
+pub(crate) fn is_free(board: &[u8; 225], d: Way, code: Code, player: Player, j: Start) -> bool
     ensures { result ≡ free (other_along player board.now d code) j }
 {
     stones_in(board, d, code, player.opponent(), j) == 0
@@ -49,17 +48,16 @@ pub(crate) fn is_free(board: &[u8; 225], d: u8, code: u8, player: Player, j: u8)
 
 // Whether a stone of the player's stands at j−1 or j+5.
 #[tactic(auto, unfolding(rules::specs::Line::beside))]
-pub(crate) fn is_beside(board: &[u8; 225], d: u8, code: u8, player: Player, j: u8) -> bool
-    requires { (d < 4) × (code < 225) × (j < 16) }
+pub(crate) fn is_beside(board: &[u8; 225], d: Way, code: Code, player: Player, j: Start) -> bool
     ensures { result ≡ beside (own_along player board.now d code) j }
 {
+    let j = j.get();
     (j > 0 && has_stone(board, d, code, player, j - 1)) || has_stone(board, d, code, player, j + 5)
 }
 
 // "It is dead if not free, and for Black also if a black stone stands at j−1 or j+5."
 #[tactic(auto, unfolding(rules::specs::Line::dead))]
-pub(crate) fn is_dead(board: &[u8; 225], d: u8, code: u8, player: Player, j: u8) -> bool
-    requires { (d < 4) × (code < 225) × (j < 16) }
+pub(crate) fn is_dead(board: &[u8; 225], d: Way, code: Code, player: Player, j: Start) -> bool
     ensures { result ≡ dead (is_black player) (own_along player board.now d code)
         (other_along player board.now d code) j }
 {
@@ -69,8 +67,7 @@ pub(crate) fn is_dead(board: &[u8; 225], d: u8, code: u8, player: Player, j: u8)
 
 // "Its score is its count of own stones, 0 to 5, and −1 if dead." Whether the score of the window at j is n.
 #[tactic(auto, unfolding(rules::specs::Line::scores))]
-pub(crate) fn scores(board: &[u8; 225], d: u8, code: u8, player: Player, n: u8, j: u8) -> bool
-    requires { (d < 4) × (code < 225) × (j < 16) }
+pub(crate) fn scores(board: &[u8; 225], d: Way, code: Code, player: Player, n: u8, j: Start) -> bool
     ensures { result ≡ scores (is_black player) (size_along d code) (own_along player board.now d code)
         (other_along player board.now d code) n j }
 {
@@ -81,8 +78,7 @@ pub(crate) fn scores(board: &[u8; 225], d: u8, code: u8, player: Player, n: u8, 
 
 // Whether the window at j is free and holds n, "counted without the dead rule".
 #[tactic(auto, unfolding(rules::specs::Line::holds))]
-pub(crate) fn holds(board: &[u8; 225], d: u8, code: u8, player: Player, n: u8, j: u8) -> bool
-    requires { (d < 4) × (code < 225) × (j < 16) }
+pub(crate) fn holds(board: &[u8; 225], d: Way, code: Code, player: Player, n: u8, j: Start) -> bool
     ensures { result ≡ holds (size_along d code) (own_along player board.now d code)
         (other_along player board.now d code) n j }
 {

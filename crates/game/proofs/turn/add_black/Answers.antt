@@ -7,4 +7,4 @@ use Rattle.game.proofs.turn.add_black.Goals as goal
 
 pub returns : goal.returns
 returns c =
-    c.add_by.ensures ∙ mark-by c.args.lines.now _ c.args.code Black true c.requires
+    rw (← c.get.ensures.value) (c.add_by.ensures ∙ mark-by c.args.lines.now _ c.get.result Black true c.numbers.ensures)

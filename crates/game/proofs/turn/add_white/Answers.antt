@@ -7,4 +7,4 @@ use Rattle.game.proofs.turn.add_white.Goals as goal
 
 pub returns : goal.returns
 returns c =
-    c.add_by.ensures ∙ mark-by c.args.lines.now _ c.args.code White true c.requires
+    rw (← c.get.ensures.value) (c.add_by.ensures ∙ mark-by c.args.lines.now _ c.get.result White true c.numbers.ensures)

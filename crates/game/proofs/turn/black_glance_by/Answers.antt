@@ -8,10 +8,12 @@ use Rattle.game.proofs.turn.black_glance_by.Goals as goal
 pub returns : goal.returns
 returns c =
     let l = c.args.lines.now in
-    let p = c.args.code in
+    let p = c.get-code.result in
     let x = c.stones_by-stones in
-    let own = masks-read Black l p c.requires.0 c.requires.1 c.requires.2 x.ensures.0 in
-    let other = masks-read White l p c.requires.0 c.requires.1 c.requires.2 x.ensures.1 in (
-      four-seen Black (cells_of l) x.result.own x.result.other p c.requires.1 own other c.black_glance_near.ensures.0,
-      may-seen Black (cells_of l) x.result.own x.result.other p c.requires.1 own other refl c.black_glance_near.ensures.1,
+    let hp = c.get-code.ensures.below in
+    let own = masks-read Black l p c.requires hp c.numbers.ensures x.ensures.0 in
+    let other = masks-read White l p c.requires hp c.numbers.ensures x.ensures.1 in
+    rw (← c.get-code.ensures.value) (
+      four-seen Black (cells_of l) x.result.own x.result.other p hp own other c.black_glance_near.ensures.0,
+      may-seen Black (cells_of l) x.result.own x.result.other p hp own other refl c.black_glance_near.ensures.1,
     )

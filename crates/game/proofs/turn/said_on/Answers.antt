@@ -1,5 +1,7 @@
 -- `game::turn::said_on` meets its contract: the reason by its three tests, the five by the Fours. Assumes nothing.
 use mathlib.Core.Path.{sym, ap, ◌∙◌}
+use Prim.Native.Nat.{◌<◌}
+use native.Mathlib.Omega.{arith}
 use Rattle.grid.specs.Lines.{cells_of}
 use Rattle.grid.proofs.Lines.{length-cells_of}
 use Rattle.referee.proofs.Asked.{free-is}
@@ -11,13 +13,14 @@ pub returns : goal.returns
 returns c =
     let l = c.args.lines.now in
     let p = c.args.code in
-    let hp = c.requires.1 in
+    let hp : p < 225 = omega (arith, c.get.ensures.value, c.get.ensures.below) in
+    let cell = rw c.get.ensures.value at c.cell_on-occupied.ensures in
     let why = c.lowest.ensures
-    ∙ reason-told c.args.player c.args.won (cells_of l) p c.cell_on-occupied.result (free-is l p hp c.cell_on-occupied.ensures)
+    ∙ reason-told c.args.player c.args.won (cells_of l) p c.cell_on-occupied.result (free-is l p hp cell)
     (forbidden-told c.args.player (cells_of l) p (length-cells_of l) hp c.glance_by-seen.ensures.1 c.is_kind_where-forbidden.ensures)
-    c.is_won.ensures in (
+    c.is_some.ensures in (
       why,
       (λ good.
           five-seen c.args.player (cells_of l) p (length-cells_of l) hp
-          (point-free c.args.player c.args.won l p c.requires.0 hp (ap is_fault (sym why) ∙ good)) c.glance_by-seen.ensures.0),
+          (point-free c.args.player c.args.won l p c.requires hp (ap is_fault (sym why) ∙ good)) c.glance_by-seen.ensures.0),
     )

@@ -7,9 +7,11 @@ use Rattle.game.proofs.turn.white_four_by.Goals as goal
 pub returns : goal.returns
 returns c =
     let l = c.args.lines.now in
-    let p = c.args.code in
+    let p = c.get-code.result in
     let x = c.stones_by-stones in
-    four-seen White (cells_of l) x.result.own x.result.other p c.requires.1
-    (masks-read White l p c.requires.0 c.requires.1 c.requires.2 x.ensures.0)
-    (masks-read Black l p c.requires.0 c.requires.1 c.requires.2 x.ensures.1)
-    c.white_four_near.ensures
+    let hp = c.get-code.ensures.below in
+    rw (← c.get-code.ensures.value)
+    (four-seen White (cells_of l) x.result.own x.result.other p hp
+    (masks-read White l p c.requires hp c.numbers.ensures x.ensures.0)
+    (masks-read Black l p c.requires hp c.numbers.ensures x.ensures.1)
+    c.white_four_near.ensures)

@@ -20,7 +20,8 @@ returns-then-some_row c =
 
 pub returns : goal.returns
 returns c =
-    answer-forces c.args.defender (cells_of c.args.lines.now) c.args.eye
+    rw c.get.ensures.value
+    (answer-forces c.args.defender (cells_of c.args.lines.now) c.args.eye
     (sym c.is_forbidden.ensures ∙ c.if-is_forbidden.false)
     (sym (some-told c.args.defender Sword (cells_of c.args.lines.now) c.args.eye c.rows_for-rows.ensures.swords
-    c.some_row.ensures) ∙ c.if-some_row.false)
+    c.some_row.ensures) ∙ c.if-some_row.false))

@@ -8,11 +8,13 @@ use Rattle.hint.proofs.eyes.gap_from.Goals as goal
 
 pub returns-then-not-bit_at : goal.returns-then-not-bit_at
 returns-then-not-bit_at c =
-    gap-there (bit c.args.stones) c.args.j c.loop-k.k (omega arith) c.loop-k.invariant (sym c.bit_at.ensures ∙ c.if-not-bit_at.true)
+    rw (← c.get-j.ensures.value)
+    (gap-there (bit c.args.stones) c.get-j.result c.loop-k.k (omega arith) c.loop-k.invariant
+    (sym c.bit_at.ensures ∙ c.if-not-bit_at.true))
 
 pub loop-k-preserved : goal.loop-k-preserved
 loop-k-preserved c = below_more _ c.loop-k.k c.loop-k.invariant (sym c.bit_at.ensures ∙ c.if-not-bit_at.false)
 
 pub returns : goal.returns
 returns c =
-    gap-last (bit c.args.stones) c.args.j (λ i h. c.loop-k.invariant i (omega arith))
+    rw (← c.get-j.ensures.value) (gap-last (bit c.args.stones) c.get-j.result (λ i h. c.loop-k.invariant i (omega arith)))

@@ -11,5 +11,6 @@ returns c =
       c.mask_on-2.ensures,
       c.opponent.ensures,
       c.mask_on.ensures,
+      c.get-key.ensures.value,
     )
-    (shown-rows c.args.player c.args.kind c.args.lines.now c.args.key c.requires.0 c.requires.1)
+    (shown-rows c.args.player c.args.kind c.args.lines.now c.args.key c.requires (rw c.get-key.ensures.value at c.get-key.ensures.below))

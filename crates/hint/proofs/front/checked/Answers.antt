@@ -28,7 +28,6 @@ pub check_on-requires : goal.check_on-requires
 check_on-requires c =
     let a = c.args in (
       lines-sound a.cells.now c.requires c.lines_of-lines.ensures,
-      c.addresses.ensures,
       open-quiet a.side (cells_of c.lines_of-lines.result) c.is_open.ensures c.if-is_open.true,
     )
 

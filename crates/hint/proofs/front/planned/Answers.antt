@@ -39,7 +39,6 @@ plan_on-count-requires c =
     let a = c.args in
     let h = c.requires.1 in (
       lines-sound a.cells.now c.requires.0 c.lines_of-lines.ensures,
-      c.addresses.ensures,
       open-quiet a.side (cells_of c.lines_of-lines.result) c.is_open.ensures c.if-not-is_open.false,
       omega arith,
       c.tries_of-tries.ensures,

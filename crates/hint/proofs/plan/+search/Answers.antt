@@ -11,11 +11,11 @@ use Rattle.grid.proofs.Lines.{length-cells_of}
 use Rattle.hint.specs.Hint.{after_both}
 use Rattle.hint.specs.Planner.{first_line, line_from, plan_from}
 use Rattle.hint.specs.Seen.{Quiet, Forced, Covers, NextTry}
-use Rattle.hint.proofs.Checked.{at-forced, is-legal, both-sound, both-cells, both-quiet, both-back}
+use Rattle.hint.proofs.Bounded.{made}
+use Rattle.hint.proofs.Checked.{at-forced, both-sound, both-cells, both-quiet, both-back}
 use Rattle.hint.proofs.Searched.{gives, nil-of, line-no, line-end, line-forced, line-last, nothing-behind, two-longer, two-before}
 use Rattle.hint.proofs.Marks.{covers-both, skip-to}
 use Rattle.hint.proofs.Searched.{plan-zero, plan-step, first-none, first_more, first-here, plan-short}
-use borrow.Fn.PlainCycle.{is}
 use Rattle.hint.proofs.plan.+search.Goals as goal
 
 pub attack_on-forced_on-requires : goal.attack_on-forced_on-requires
@@ -26,12 +26,11 @@ attack_on-forced_on-requires t c =
       omega arith,
       (
         subst Sound (sym e.1) c.requires.0,
-        c.requires.1,
         subst (λ (l : List ℕ). Forced a.side (cells_of l) a.code c.in-Forces.eye) (sym e.1)
             (at-forced a.side (cells_of a.lines.now) a.code e.0 c.in-Forces.is),
+        c.requires.2,
         c.requires.3,
-        c.requires.4,
-        subst (λ (l : List ℕ). Covers a.side (cells_of l) a.tries.now) (sym e.1) c.requires.6,
+        subst (λ (l : List ℕ). Covers a.side (cells_of l) a.tries.now) (sym e.1) c.requires.4,
       ),
     )
 
@@ -49,98 +48,101 @@ attack_on-returns-in-Ends t c =
     let e = c.attack_at.ensures in
     let g = gives a.out.now a.at
     (line-end a.side (a.left - 1) (cells_of a.lines.now) a.code e.0 c.in-Ends.is) in
-    (g.0, g.1, e.1)
+    rw c.get.ensures.value (g.0, g.1, e.1)
 
 pub forced_on-returns-then-left-eq1 : goal.forced_on-returns-then-left-eq1
 forced_on-returns-then-left-eq1 t c =
     let a = c.args in
     let g = gives a.out.now a.at
-    (line-last a.side a.left (cells_of a.lines.now) a.code a.eye c.requires.2 c.if-left-eq1.true) in
+    (line-last a.side a.left (cells_of a.lines.now) a.code a.eye c.requires.1 c.if-left-eq1.true) in
     (g.0, g.1, refl)
 
 pub forced_on-tries_after-next-requires : goal.forced_on-tries_after-next-requires
 forced_on-tries_after-next-requires t c =
-    let a = c.args in (
-      both-sound a.side a.lines.now _ a.code a.eye c.requires.0 c.requires.2 c.requires.1
-          c.opponent.ensures
-          c.mark_by.ensures c.mark_by-2.ensures,
-      (is-legal a.side (cells_of a.lines.now) a.code a.eye c.requires.2).lt,
-      c.requires.1,
-    )
+    let put = rw c.get-p.ensures.value at c.mark_by.ensures in
+    let a = c.args in
+    both-sound a.side a.lines.now _ a.code a.eye c.requires.0 c.requires.1 c.numbers-numbers.ensures c.opponent.ensures
+    put c.mark_by-2.ensures
 
 pub forced_on-plan_on-n-requires : goal.forced_on-plan_on-n-requires
 forced_on-plan_on-n-requires t c =
+    let put = rw c.get-p.ensures.value at c.mark_by.ensures in
     let a = c.args in
     let m = c.decreases in
-    let h = c.requires.4 in
-    let b = c.requires.3 in (
+    let h = c.requires.3 in
+    let b = c.requires.2 in (
       omega arith,
       (
-        both-sound a.side a.lines.now _ a.code a.eye c.requires.0 c.requires.2 c.requires.1
+        both-sound a.side a.lines.now _ a.code a.eye c.requires.0 c.requires.1 c.numbers-numbers.ensures
             c.opponent.ensures
-            c.mark_by.ensures c.mark_by-2.ensures,
-        c.requires.1,
-        both-quiet a.side a.lines.now _ a.code a.eye c.requires.0 c.requires.2 c.requires.1
+            put c.mark_by-2.ensures,
+        both-quiet a.side a.lines.now _ a.code a.eye c.requires.0 c.requires.1 c.numbers-numbers.ensures
             c.opponent.ensures
-            c.mark_by.ensures c.mark_by-2.ensures,
+            put c.mark_by-2.ensures,
         omega arith,
-        covers-both a.side (cells_of a.lines.now) a.code a.eye c.requires.2 (length-cells_of a.lines.now) a.tries.now _
-            c.requires.5 c.tries_after-next.ensures.0
-            (both-cells a.side a.lines.now _ a.code a.eye c.requires.0 c.requires.2 c.requires.1
+        covers-both a.side (cells_of a.lines.now) a.code a.eye c.requires.1 (length-cells_of a.lines.now) a.tries.now _
+            c.requires.4 c.tries_after-next.ensures.0
+            (both-cells a.side a.lines.now _ a.code a.eye c.requires.0 c.requires.1 c.numbers-numbers.ensures
             c.opponent.ensures
-            c.mark_by.ensures c.mark_by-2.ensures) c.tries_after-next.ensures.1,
+            put c.mark_by-2.ensures) c.tries_after-next.ensures.1,
       ),
     )
 
 pub forced_on-returns-then-n-eq0 : goal.forced_on-returns-then-n-eq0
 forced_on-returns-then-n-eq0 t c =
+    let put = rw c.get-p.ensures.value at c.mark_by.ensures in
+    let off = rw c.get-p.ensures.value at c.mark_by-4.ensures in
     let a = c.args in
     let next = plan_from a.side (a.left - 1) in
     let after = after_both a.side (cells_of a.lines.now) a.code a.eye in
-    let on = both-cells a.side a.lines.now _ a.code a.eye c.requires.0 c.requires.2 c.requires.1
+    let on = both-cells a.side a.lines.now _ a.code a.eye c.requires.0 c.requires.1 c.numbers-numbers.ensures
     c.opponent.ensures
-    c.mark_by.ensures c.mark_by-2.ensures in
+    put c.mark_by-2.ensures in
     let r = c.plan_on-n.ensures in
     let r0 = r.0 ∙ ap (λ (D : List ℕ). length (next D)) on in
     let r1 = r.1 ∙ ap (λ (D : List ℕ). sets a.out.now (a.at + 2) (next D)) on in
-    let back = both-back a.side a.lines.now _ a.code a.eye c.requires.0 c.requires.2 c.requires.1
+    let back = both-back a.side a.lines.now _ a.code a.eye c.requires.0 c.requires.1 c.numbers-numbers.ensures
     c.opponent.ensures
-    c.mark_by.ensures c.mark_by-2.ensures c.opponent-2.ensures r.2 c.mark_by-3.ensures
-    c.mark_by-4.ensures in
+    put c.mark_by-2.ensures c.opponent-2.ensures r.2 c.mark_by-3.ensures
+    off in
     let z = sym c.if-n-eq0.true ∙ r0 in
-    let g = gives a.out.now a.at (line-forced a.side next (cells_of a.lines.now) a.code a.eye c.requires.2
+    let g = gives a.out.now a.at (line-forced a.side next (cells_of a.lines.now) a.code a.eye c.requires.1
     ∙ nothing-behind a.code a.eye (next after) z) in
     (g.0, r1 ∙ ap (sets a.out.now (a.at + 2)) (nil-of (next after) z) ∙ g.1, back)
 
 pub forced_on-overflow_add-result : goal.forced_on-overflow_add-result
 forced_on-overflow_add-result t c =
+    let put = rw c.get-p.ensures.value at c.mark_by.ensures in
     let a = c.args in
     let next = plan_from a.side (a.left - 1) in
     let after = after_both a.side (cells_of a.lines.now) a.code a.eye in
-    let on = both-cells a.side a.lines.now _ a.code a.eye c.requires.0 c.requires.2 c.requires.1
+    let on = both-cells a.side a.lines.now _ a.code a.eye c.requires.0 c.requires.1 c.numbers-numbers.ensures
     c.opponent.ensures
-    c.mark_by.ensures c.mark_by-2.ensures in
+    put c.mark_by-2.ensures in
     let r0 = c.plan_on-n.ensures.0 ∙ ap (λ (D : List ℕ). length (next D)) on in
     let h = plan-short a.side (a.left - 1) after in
-    omega (arith, c.requires.3, c.requires.4, r0, h)
+    omega (arith, c.requires.2, c.requires.3, r0, h)
 
 pub forced_on-returns : goal.forced_on-returns
 forced_on-returns t c =
+    let put = rw c.get-p.ensures.value at c.mark_by.ensures in
+    let off = rw c.get-p.ensures.value at c.mark_by-4.ensures in
     let a = c.args in
     let next = plan_from a.side (a.left - 1) in
     let after = after_both a.side (cells_of a.lines.now) a.code a.eye in
-    let on = both-cells a.side a.lines.now _ a.code a.eye c.requires.0 c.requires.2 c.requires.1
+    let on = both-cells a.side a.lines.now _ a.code a.eye c.requires.0 c.requires.1 c.numbers-numbers.ensures
     c.opponent.ensures
-    c.mark_by.ensures c.mark_by-2.ensures in
+    put c.mark_by-2.ensures in
     let r = c.plan_on-n.ensures in
     let r0 = r.0 ∙ ap (λ (D : List ℕ). length (next D)) on in
     let r1 = r.1 ∙ ap (λ (D : List ℕ). sets a.out.now (a.at + 2) (next D)) on in
-    let back = both-back a.side a.lines.now _ a.code a.eye c.requires.0 c.requires.2 c.requires.1
+    let back = both-back a.side a.lines.now _ a.code a.eye c.requires.0 c.requires.1 c.numbers-numbers.ensures
     c.opponent.ensures
-    c.mark_by.ensures c.mark_by-2.ensures c.opponent-2.ensures r.2 c.mark_by-3.ensures
-    c.mark_by-4.ensures in
+    put c.mark_by-2.ensures c.opponent-2.ensures r.2 c.mark_by-3.ensures
+    off in
     let some : length (next after) ≡ 0 → ⊥ = λ z. c.if-n-eq0.false (r0 ∙ z) in
-    let g = gives a.out.now a.at (line-forced a.side next (cells_of a.lines.now) a.code a.eye c.requires.2) in (
+    let g = gives a.out.now a.at (line-forced a.side next (cells_of a.lines.now) a.code a.eye c.requires.1) in
+    rw c.get-p.ensures.value (
       ap (λ (n : ℕ). n + 2) r0 ∙ two-longer a.out.now a.at a.code a.eye (next after) some ∙ g.0,
       ap (λ (u : List ℕ). set (set u a.at a.code) (a.at + 1) a.eye) r1
           ∙ two-before a.out.now a.at a.code a.eye (next after) some ∙ g.1,
@@ -160,7 +162,7 @@ plan_on-loop-p-init t c =
       refl,
       refl,
       n.le,
-      skip-to a.side (cells_of a.lines.now) (length-cells_of a.lines.now) c.requires.2 a.tries.now c.requires.4
+      skip-to a.side (cells_of a.lines.now) (length-cells_of a.lines.now) c.requires.1 a.tries.now c.requires.3
           (a.left - 1) n (omega arith) (first-none _),
     )
 
@@ -173,12 +175,10 @@ plan_on-attack_on-n-requires t c =
       omega arith,
       (
         subst Sound (sym i.0) c.requires.0,
-        c.requires.1,
-        subst (λ (l : List ℕ). Quiet a.side (cells_of l)) (sym i.0) c.requires.2,
-        c.requires.3,
+        subst (λ (l : List ℕ). Quiet a.side (cells_of l)) (sym i.0) c.requires.1,
+        c.requires.2,
         h,
-        omega (arith, c.loop-p-test.true),
-        subst (λ (l : List ℕ). Covers a.side (cells_of l) a.tries.now) (sym i.0) c.requires.4,
+        subst (λ (l : List ℕ). Covers a.side (cells_of l) a.tries.now) (sym i.0) c.requires.3,
       ),
     )
 
@@ -189,7 +189,7 @@ plan_on-returns-then-n-ne0 t c =
     let i = c.loop-p.invariant in
     let p = c.loop-p.p in
     let next = plan_from a.side (a.left - 1) in
-    let r = c.attack_on-n.ensures in
+    let r = rw (made 225 p c.new.ensures c.unwrap-code.ensures) at c.attack_on-n.ensures in
     let r0 = r.0 ∙ ap (λ (l : List ℕ). length (line_from a.side next (cells_of l) p)) i.0 in
     let r1 = r.1 ∙ ap (λ (u : List ℕ). sets u a.at (line_from a.side next (cells_of c.loop-p.lines) p)) i.1
     ∙ ap (λ (l : List ℕ). sets a.out.now a.at (line_from a.side next (cells_of l) p)) i.0 in
@@ -204,7 +204,7 @@ plan_on-loop-p-preserved t c =
     let i = c.loop-p.invariant in
     let p = c.loop-p.p in
     let next = plan_from a.side (a.left - 1) in
-    let r = c.attack_on-n.ensures in
+    let r = rw (made 225 p c.new.ensures c.unwrap-code.ensures) at c.attack_on-n.ensures in
     let r0 = r.0 ∙ ap (λ (l : List ℕ). length (line_from a.side next (cells_of l) p)) i.0 in
     let r1 = r.1 ∙ ap (λ (u : List ℕ). sets u a.at (line_from a.side next (cells_of c.loop-p.lines) p)) i.1
     ∙ ap (λ (l : List ℕ). sets a.out.now a.at (line_from a.side next (cells_of l) p)) i.0 in
@@ -214,7 +214,7 @@ plan_on-loop-p-preserved t c =
       same,
       r1 ∙ ap (sets a.out.now a.at) (nil-of (line_from a.side next C p) z),
       n.le,
-      skip-to a.side C (length-cells_of a.lines.now) c.requires.2 a.tries.now c.requires.4 (a.left - 1) n
+      skip-to a.side C (length-cells_of a.lines.now) c.requires.1 a.tries.now c.requires.3 (a.left - 1) n
           (omega (arith, c.loop-p-test.true)) (first_more (line_from a.side next C) p i.3 z),
     )
 

@@ -11,13 +11,16 @@ pub returns-then-cells-ne0 : goal.returns-then-cells-ne0
 returns-then-cells-ne0 c =
     let a = c.args in (
       c.mark_cells.ensures.0,
-      line_marked a.side a.lines.now a.key c.requires.0 c.requires.1 c.hot_cells-cells.ensures _ c.mark_cells.ensures.1,
+      rw (← c.get-key.ensures.value)
+          (line_marked a.side a.lines.now c.get-key.result c.requires c.get-key.ensures.below c.hot_cells-cells.ensures _
+          c.mark_cells.ensures.1),
     )
 
 pub returns-else-cells-ne0 : goal.returns-else-cells-ne0
 returns-else-cells-ne0 c =
     let a = c.args in (
       kept_same _,
-      line_marked a.side a.lines.now a.key c.requires.0 c.requires.1 c.hot_cells-cells.ensures _
-          (λ j h t l. absurd (along (ap (λ (v : ℕ). bit v j) c.if-cells-ne0.false ∙ bit-none j) t)),
+      rw (← c.get-key.ensures.value)
+          (line_marked a.side a.lines.now c.get-key.result c.requires c.get-key.ensures.below c.hot_cells-cells.ensures _
+          (λ j h t l. absurd (along (ap (λ (v : ℕ). bit v j) c.if-cells-ne0.false ∙ bit-none j) t))),
     )

@@ -1,7 +1,6 @@
 -- `hint::tries::next_try` meets its contract. Assumes nothing.
 use Prim.Native.Nat.{◌+◌, ◌-◌, ◌%◌}
 use native.Mathlib.Omega.{arith}
-use mathlib.Core.Bool.{false}
 use Rattle.hint.proofs.Marks.{none-to, not_back}
 use Rattle.hint.proofs.tries.next_try.Goals as goal
 

@@ -6,4 +6,4 @@ use Rattle.hint.proofs.tries.tries_of.Goals as goal
 
 pub returns : goal.returns
 returns c =
-    keyed-covers c.args.side (cells_of c.args.lines.now) _ (λ k h. c.loop-key.invariant.1 k (omega arith))
+    keyed-covers c.args.side (cells_of c.args.lines.now) _ (λ k h. c.loop-key.invariant k (omega arith))

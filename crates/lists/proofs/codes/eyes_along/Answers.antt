@@ -1,5 +1,7 @@
 -- `lists::codes::eyes_along` meets its contract: the eyes of the line that the address names, none where no line is stored. Assumes nothing.
 use mathlib.Core.Path.{sym, ◌∙◌}
+use Prim.Native.Nat.{◌<◌}
+use native.Mathlib.Omega.{arith}
 use Rattle.point.proofs.Stored.{place-stored, place-has, place-key}
 use Rattle.rules.specs.declared.RowKind.TheVariants.{Four}
 use Rattle.grid.specs.Lines.{cells_of}
@@ -10,7 +12,8 @@ use Rattle.lists.proofs.codes.eyes_along.Goals as goal
 pub returns-then-a : goal.returns-then-a
 returns-then-a c =
     let a = c.args in
-    let e = by-addresses a.d a.code c.address_by-a.ensures c.requires.3 in
+    let hd : a.d < 4 = omega (arith, c.get.ensures.value, c.get.ensures.below) in
+    let e = by-addresses a.d a.code (rw (c.get.ensures.value, c.get-2.ensures.value) at c.address_by-a.ensures) c.numbers.ensures in
     let t = c.if-a.true in
     rw (
       c.eyes_of.ensures,
@@ -23,11 +26,12 @@ returns-then-a c =
       c.mask_on.ensures,
       place-key a.d a.code e t,
     )
-    (point-eyes a.player a.lines.now a.code a.d c.requires.0 c.requires.2 (place-has a.d a.code e t))
+    (point-eyes a.player a.lines.now a.code a.d c.requires hd (place-has a.d a.code e t))
 
 pub returns : goal.returns
 returns c =
     let a = c.args in
-    let h = c.requires in
-    no-eyes a.player (cells_of a.lines.now) a.code a.d h.2 h.1
-    (sym (place-stored a.d a.code (by-addresses a.d a.code c.address_by-a.ensures h.3)) ∙ c.if-a.false)
+    let hd : a.d < 4 = omega (arith, c.get.ensures.value, c.get.ensures.below) in
+    let hp : a.code < 225 = omega (arith, c.get-2.ensures.value, c.get-2.ensures.below) in
+    let e = by-addresses a.d a.code (rw (c.get.ensures.value, c.get-2.ensures.value) at c.address_by-a.ensures) c.numbers.ensures in
+    no-eyes a.player (cells_of a.lines.now) a.code a.d hd hp (sym (place-stored a.d a.code e) ∙ c.if-a.false)

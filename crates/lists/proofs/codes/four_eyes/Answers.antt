@@ -3,6 +3,7 @@ use mathlib.Core.Path.{◌≡◌, ap, sym, ◌∙◌}
 use Prim.Native.Nat.{ℕ}
 use native.Mathlib.Omega.{arith}
 use lib.ListN.{length}
+use Rattle.std.proofs.lemmas.Option.{cond_some}
 use Rattle.rules.specs.Tools.{gather}
 use Rattle.rules.specs.Grid.{four_eyes, eyes_in}
 use Rattle.grid.specs.Lines.{cells_of}
@@ -18,15 +19,15 @@ loop-d-init c =
 pub keep_eyes-requires : goal.keep_eyes-requires
 keep_eyes-requires c =
     let a = c.args in
-    let h = c.requires in
     let on = c.loop-d-test.true in
     let few = gather-length 15 c.loop-d.d (eyes_in a.player (cells_of a.lines.now) a.code) (λ i l. eyes-short _ _ _ i) in
-    (h.0, h.1, on, omega (arith, ap length c.loop-d.invariant, few, on), c.addresses-table.ensures)
+    (c.requires, omega (arith, ap length c.loop-d.invariant, few, on))
 
 pub loop-d-preserved : goal.loop-d-preserved
 loop-d-preserved c =
     let a = c.args in
-    gather_put 60 (eyes_in a.player (cells_of a.lines.now) a.code) c.loop-d.d c.loop-d.invariant c.keep_eyes.ensures
+    let way : c.unwrap-way.result ≡ c.loop-d.d = sym (cond_some _ _ _ (sym c.new.ensures ∙ c.unwrap-way.ensures)).1 in
+    gather_put 60 (eyes_in a.player (cells_of a.lines.now) a.code) c.loop-d.d c.loop-d.invariant (rw way at c.keep_eyes.ensures)
 
 pub returns : goal.returns
 unfolding four_eyes

@@ -18,6 +18,11 @@ pub loop-j-init : goal.loop-j-init
 unfolding gather
 loop-j-init c = sym (append-nil c.args.list.now)
 
+pub code_at-requires : goal.code_at-requires
+code_at-requires c =
+    let end = rw c.get.ensures.value at c.line_size-j-end.ensures in
+    (c.requires.0, omega (arith, end))
+
 pub loop-j-preserved : goal.loop-j-preserved
 loop-j-preserved c =
     let a = c.args in
@@ -26,9 +31,10 @@ loop-j-preserved c =
     let long = ap length c.loop-j.invariant ∙ length-append a.list.now (gather j f) in
     let fit = short 1 (bit a.cells) (λ j. point_at a.d a.i j ∷ []) (λ j. omega arith) j in
     let top = size-le a.d a.i in
+    let end = rw c.get.ensures.value at c.line_size-j-end.ensures in
     elim c.if-bit_at.branch [
       | then-bit_at w ↦ w.list-is ∙ behind_kept _ a.list.now f j c.loop-j.invariant (w.code_at.result ∷ []) w.keep.ensures
-          (omega (arith, long, fit, top, c.loop-j-test.true, c.line_size-j-end.ensures, c.requires.2))
+          (omega (arith, long, fit, top, c.loop-j-test.true, end, c.requires.1))
           (rw (w.code_at.ensures.0, sym c.bit_at.ensures ∙ w.if-bit_at.true))
       | else-bit_at w ↦ behind_passed 0 a.list.now f j c.loop-j.invariant w.list-is (rw (sym c.bit_at.ensures ∙ w.if-bit_at.false))
     ]
@@ -37,5 +43,6 @@ pub returns : goal.returns
 unfolding cell_list
 returns c =
     let a = c.args in
-    let e : c.loop-j.j ≡ line_size a.d a.i = omega (arith, c.line_size-j-end.ensures) in
+    let end = rw c.get.ensures.value at c.line_size-j-end.ensures in
+    let e : c.loop-j.j ≡ line_size a.d a.i = omega (arith, end) in
     c.loop-j.invariant ∙ ap (λ (n : ℕ). a.list.now ++ gather n (cell_item a.d a.i (bit a.cells))) e

@@ -5,4 +5,4 @@ use Rattle.lists.specs.Lists.{mask_item}
 use Rattle.lists.proofs.codes.mask_points.Given as goal
 
 abbrev pub invariant-loop-k : goal.invariant-loop-k
-invariant-loop-k l = l.list ≡ gather l.k (mask_item l.key l.j l.mask)
+invariant-loop-k l = l.list ≡ gather l.k (mask_item l.fn.key l.j l.mask)

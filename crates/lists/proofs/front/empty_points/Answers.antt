@@ -1,7 +1,5 @@
 -- `lists::front::empty_points` meets its contract: refused, or asked of the cells that the board shows. Assumes nothing.
 use mathlib.Core.Path.{ap, sym, ◌∙◌}
-use mathlib.Core.List.{List}
-use Prim.Native.Nat.{ℕ}
 use borrow.Author.Rules.{rules}
 use Rattle.rules.proofs.Refusals.{unrefused}
 use Rattle.lent.proofs.Handed.{turned_down}

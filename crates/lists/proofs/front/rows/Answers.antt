@@ -24,5 +24,6 @@ pub returns : goal.returns
 returns c =
     let a = c.args in
     let listed = c.as_slice.ensures.value in
-    handed 4 _ _ _ (unrefused _ c.rows_refusal.ensures c.in_ok-rows_refusal.was) (listed ∙ c.all_rows-found.ensures ∙ ap₂ (λ (r : Player) (k : RowKind). rows_of r k (cells a.board)) c.or_white.ensures c.or_overlined.ensures)
+    handed 4 _ _ _ (unrefused _ c.rows_refusal.ensures c.in_ok-rows_refusal.was)
+    (listed ∙ c.all_rows-found.ensures ∙ ap₂ (λ (r : Player) (k : RowKind). rows_of r k (cells a.board)) c.or_white.ensures c.or_overlined.ensures)
     (omega (arith, c.len.ensures.value, ap length listed)) c.hand_out.ensures

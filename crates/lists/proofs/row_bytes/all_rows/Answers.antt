@@ -3,6 +3,7 @@ use mathlib.Core.Path.{◌≡◌, ap, sym, ◌∙◌}
 use Prim.Native.Nat.{ℕ}
 use native.Mathlib.Omega.{arith}
 use lib.ListN.{length}
+use Rattle.std.proofs.lemmas.Option.{cond_some}
 use Rattle.rules.specs.Tools.{gather}
 use Rattle.rules.specs.Grid.{rows_of, key_rows}
 use Rattle.grid.specs.Lines.{cells_of}
@@ -19,15 +20,15 @@ loop-key-init c =
 pub keep_key-requires : goal.keep_key-requires
 keep_key-requires c =
     let a = c.args in
-    let h = c.requires in
     let on = c.loop-key-test.true in
     let few = gather-length 60 c.loop-key.key (key_rows a.player a.kind (cells_of a.lines.now)) (λ i l. rows_short _ _ _ (key_dir i) (key_no i) _) in
-    (h, on, omega (arith, ap length c.loop-key.invariant, few, on))
+    (c.requires, omega (arith, ap length c.loop-key.invariant, few, on))
 
 pub loop-key-preserved : goal.loop-key-preserved
 loop-key-preserved c =
     let a = c.args in
-    gather_put 4320 (key_rows a.player a.kind (cells_of a.lines.now)) c.loop-key.key c.loop-key.invariant c.keep_key.ensures
+    let key : c.unwrap-key.result ≡ c.loop-key.key = sym (cond_some _ _ _ (sym c.new.ensures ∙ c.unwrap-key.ensures)).1 in
+    gather_put 4320 (key_rows a.player a.kind (cells_of a.lines.now)) c.loop-key.key c.loop-key.invariant (rw key at c.keep_key.ensures)
 
 pub returns : goal.returns
 unfolding rows_of

@@ -9,7 +9,7 @@ use Rattle.lists.proofs.row_bytes.keep_key.Goals as goal
 pub returns : goal.returns
 returns c =
     let a = c.args in
-    c.keep_rows.ensures
+    rw (← c.get-key.ensures.value) (c.keep_rows.ensures
     ∙ ap (λ (x : List ℕ). a.list.now ++ x)
     (rw (
       c.row_starts-starts.ensures,
@@ -19,7 +19,7 @@ returns c =
       c.opponent.ensures,
       c.mask_on-my.ensures,
     )
-    (key-rows a.player a.kind a.lines.now c.requires.0 a.key c.requires.1))
+    (key-rows a.player a.kind a.lines.now c.requires.0 c.get-key.result c.get-key.ensures.below)))
 
 pub keep_rows-requires : goal.keep_rows-requires
-keep_rows-requires c = (omega arith, (c.requires.1, c.requires.2))
+keep_rows-requires c = (omega arith, c.requires.1)

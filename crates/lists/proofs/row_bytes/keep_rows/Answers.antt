@@ -42,7 +42,7 @@ loop-j-preserved g c =
           (five-eyes long own other a.kind j (omega (arith, top))) in
           w.list-is ∙ behind_kept _ a.list.now f j c.loop-j.invariant
           (a.key ∷ j ∷ w.five_from-stones.result ∷ bit_and w.five_from.result w.eye_cells.result ∷ []) w.keep.ensures
-          (omega (arith, all, fit, size, top, on, c.requires.1))
+          (omega (arith, all, fit, size, top, on, c.requires))
           (rw (w.five_from-stones.ensures, eyes, sym c.bit_at.ensures ∙ w.if-bit_at.true)))
       | else-bit_at w ↦ behind_passed 0 a.list.now f j c.loop-j.invariant w.list-is (rw (sym c.bit_at.ensures ∙ w.if-bit_at.false))
     ]

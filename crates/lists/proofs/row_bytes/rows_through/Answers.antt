@@ -3,6 +3,7 @@ use mathlib.Core.Path.{◌≡◌, ap, sym, ◌∙◌}
 use Prim.Native.Nat.{ℕ}
 use native.Mathlib.Omega.{arith}
 use lib.ListN.{length}
+use Rattle.std.proofs.lemmas.Option.{cond_some}
 use Rattle.rules.specs.Tools.{gather}
 use Rattle.rules.specs.Grid.{rows_on_point, rows_in}
 use Rattle.grid.specs.Lines.{cells_of}
@@ -19,15 +20,16 @@ loop-d-init c =
 pub keep_rows_along-requires : goal.keep_rows_along-requires
 keep_rows_along-requires c =
     let a = c.args in
-    let h = c.requires in
     let on = c.loop-d-test.true in
     let few = gather-length 60 c.loop-d.d (rows_in a.player a.kind (cells_of a.lines.now) a.code) (λ i l. rows_short _ _ _ i (line_no i a.code) _) in
-    (h.0, h.1, on, omega (arith, ap length c.loop-d.invariant, few, on), c.addresses-table.ensures)
+    (c.requires, omega (arith, ap length c.loop-d.invariant, few, on))
 
 pub loop-d-preserved : goal.loop-d-preserved
 loop-d-preserved c =
     let a = c.args in
-    gather_put 240 (rows_in a.player a.kind (cells_of a.lines.now) a.code) c.loop-d.d c.loop-d.invariant c.keep_rows_along.ensures
+    let way : c.unwrap-way.result ≡ c.loop-d.d = sym (cond_some _ _ _ (sym c.new.ensures ∙ c.unwrap-way.ensures)).1 in
+    gather_put 240 (rows_in a.player a.kind (cells_of a.lines.now) a.code) c.loop-d.d c.loop-d.invariant
+    (rw way at c.keep_rows_along.ensures)
 
 pub returns : goal.returns
 unfolding rows_on_point

@@ -1,65 +1,71 @@
 -- The six functions of the cycle meet their contracts. What falls at each call is six times the number of empty points, and a little:
 -- on one board `two_real` 6, `open_asked` 5, `is_real` 4, `strict_by` 3, `plain` 2, `trial` 1. Assumes nothing.
-use mathlib.Core.Path.{refl, ap, ◌∙◌}
+use mathlib.Core.Path.{refl, ap, sym, subst, ◌∙◌}
 use mathlib.Core.Bool.{not}
 use mathlib.Core.List.{List}
 use native.Mathlib.Omega.{arith}
+use lib.Dec.{T}
+use Rattle.rules.specs.Grid.{rows_through}
+use Rattle.rules.specs.declared.Player.TheVariants.{Black}
+use Rattle.rules.specs.declared.RowKind.TheVariants.{Three}
 use Rattle.rules.specs.Forbidden.{is_real, strict_of, real_double}
-use Rattle.grid.specs.Lines.{cells_of}
+use Rattle.grid.specs.Lines.{cells_of, Sound}
+use Rattle.referee.proofs.Bounded.{made, can-make}
 use Rattle.referee.proofs.RowsSeen.{triable}
 use Rattle.referee.proofs.EyeFound.{eye-small, eye-empty, five-seen, real-seen}
-use Rattle.referee.proofs.Asked.{on-sound, on-cells, on-fewer, on-threes, added, lifted}
+use Rattle.referee.proofs.Asked.{on-sound, on-cells, on-fewer, on-threes, added, lifted, fewer}
 use Rattle.referee.proofs.Told.{open-left, left-three, known-settled, one-settled, stays-settled}
 use Rattle.referee.proofs.Told.{next-there, next-further, walk_first, walk-on, walk-done}
 use Prim.Native.Nat.{ℕ, ◌+◌, ◌/◌, ◌%◌, ◌<◌}
 use Rattle.referee.proofs.cycle.+questions.Goals as goal
 
-pub is_real-rows_on-rows-requires : goal.is_real-rows_on-rows-requires
-is_real-rows_on-rows-requires t c =
-    let t = c.requires in (
-      t.0,
-      eye-small c.args.lines.now c.args.code (c.args.three / 16) (c.args.three % 16) t.0 t.1 (omega (arith, t.2)) t.3
-          c.eye_on-eye.ensures,
-      t.4,
-    )
+pub is_real-unwrap-eye-requires : goal.is_real-unwrap-eye-requires
+is_real-unwrap-eye-requires t c =
+    let q = c.requires in
+    let hp : c.args.code < 225 = omega arith in
+    let hd : c.args.three / 16 < 4 = omega arith in
+    can-make 225 _ c.new.ensures
+    (eye-small c.args.lines.now c.args.code (c.args.three / 16) (c.args.three % 16) q.0 hp hd q.1 (c.eye_on.ensures q.0 q.1))
 
 pub is_real-strict_by-requires : goal.is_real-strict_by-requires
 is_real-strict_by-requires t c =
     let L = c.args.lines.now in
     let m = c.decreases in
-    let t = c.requires in
+    let q = c.requires in
     let d = c.args.three / 16 in
     let j = c.args.three % 16 in
-    let h : d < 4 = omega (arith, t.2) in (
+    let hp : c.args.code < 225 = omega arith in
+    let hd : d < 4 = omega arith in
+    let at = made 225 _ c.new.ensures c.unwrap-eye.ensures ∙ c.eye_on.ensures q.0 q.1 in (
       omega arith,
-      (
-        eye-small L c.args.code d j t.0 t.1 h t.3 c.eye_on-eye.ensures,
-        λ u. triable (cells_of L) _ c.rows_on-rows.ensures L t.0 refl
-            (eye-empty L c.args.code d j t.0 t.1 h t.3 c.eye_on-eye.ensures),
-        t.4,
-      ),
+      λ u. triable (cells_of L) _ (c.rows_on-rows.ensures q.0) L q.0 refl (eye-empty L c.args.code d j q.0 hp hd q.1 at),
     )
 
 pub is_real-returns-else-not-some_row : goal.is_real-returns-else-not-some_row
 is_real-returns-else-not-some_row t c =
-    let t = c.requires in (
-      ap not c.if-not-some_row.false ∙ five-seen c.args.lines.now c.args.code (c.args.three / 16) (c.args.three % 16) t.0 t.1 (omega (arith, t.2)) t.3
-          c.eye_on-eye.ensures c.rows_on-rows.ensures c.some_row.ensures c.if-not-some_row.false,
+    let q = c.requires in
+    let hp : c.args.code < 225 = omega arith in
+    let hd : c.args.three / 16 < 4 = omega arith in
+    let at = made 225 _ c.new.ensures c.unwrap-eye.ensures ∙ c.eye_on.ensures q.0 q.1 in (
+      ap not c.if-not-some_row.false ∙ five-seen c.args.lines.now c.args.code (c.args.three / 16) (c.args.three % 16) q.0 hp hd q.1
+          at (c.rows_on-rows.ensures q.0) c.some_row.ensures c.if-not-some_row.false,
       refl,
     )
 
 pub is_real-returns-then-not-some_row : goal.is_real-returns-then-not-some_row
 is_real-returns-then-not-some_row t c =
-    let t = c.requires in (
-      c.is_none.ensures
-          ∙ real-seen c.args.lines.now c.args.code (c.args.three / 16) (c.args.three % 16) t.0 t.1 (omega (arith, t.2))
-          t.3 c.eye_on-eye.ensures c.rows_on-rows.ensures c.some_row.ensures c.if-not-some_row.true c.strict_by.ensures.0,
+    let q = c.requires in
+    let hp : c.args.code < 225 = omega arith in
+    let hd : c.args.three / 16 < 4 = omega arith in
+    let at = made 225 _ c.new.ensures c.unwrap-eye.ensures ∙ c.eye_on.ensures q.0 q.1 in (
+      c.is_none.ensures ∙ real-seen c.args.lines.now c.args.code (c.args.three / 16) (c.args.three % 16) q.0 hp hd q.1
+          at (c.rows_on-rows.ensures q.0) c.some_row.ensures c.if-not-some_row.true c.strict_by.ensures.0,
       c.strict_by.ensures.1,
     )
 
 pub open_asked-loop-three-init : goal.open_asked-loop-three-init
 open_asked-loop-three-init t c =
-    let known = c.requires.2 in
+    let known = c.requires.1 in
     let C = cells_of c.args.lines.now in
     let e = c.other_starts-rest.ensures in (
       refl,
@@ -67,6 +73,19 @@ open_asked-loop-three-init t c =
       next-there _ 0 c.is_told.result c.next_unless-three.ensures,
       λ k hk u. left-three C c.args.code known k hk (open-left _ _ e k hk u),
       walk_first _ 0 c.is_told.result c.next_unless-three.ensures _ _ refl c.is_told.ensures e,
+    )
+
+pub open_asked-is_real-real-requires : goal.open_asked-is_real-real-requires
+open_asked-is_real-real-requires t c =
+    let v = c.loop-three.invariant in
+    let k = c.loop-three.three in
+    let h = c.loop-three-test.true in (
+      fewer 4 c.args.lines.now c.loop-three.lines t v.0 c.decreases,
+      (
+        subst Sound (sym v.0) c.requires.0,
+        rw (made 64 k c.new.ensures c.unwrap.ensures)
+            (subst (λ (l : List ℕ). T (rows_through Black Three (cells_of l) c.args.code (k / 16) (k % 16))) (sym v.0) (v.3 k h (v.2 h))),
+      ),
     )
 
 pub open_asked-loop-three-smaller : goal.open_asked-loop-three-smaller
@@ -83,7 +102,7 @@ open_asked-loop-three-preserved t c =
     let p = c.args.code in
     let k = c.loop-three.three in
     let three = v.3 k h (v.2 h) in
-    let answer = c.is_real-real.ensures.0 ∙ ap (λ (c : List ℕ). is_real strict_of (cells_of c) p (k / 16) (k % 16)) v.0 in
+    let answer = (rw (made 64 k c.new.ensures c.unwrap.ensures) at c.is_real-real.ensures.0) ∙ ap (λ (c : List ℕ). is_real strict_of (cells_of c) p (k / 16) (k % 16)) v.0 in
     let es = c.settled-known.ensures.0 in
     let el = c.settled-known.ensures.1 in (
       c.is_real-real.ensures.1 ∙ v.0,
@@ -104,23 +123,22 @@ pub trial-two_real-real-requires : goal.trial-two_real-real-requires
 trial-two_real-real-requires t c =
     let L = c.args.lines.now in
     let p = c.args.code in
-    let hp = c.requires.0 in
-    let q = c.requires.1 in
-    let w = added L _ p c.requires.2 q.sound hp q.free c.add_by.ensures in
+    let hp : p < 225 = omega arith in
+    let q = c.requires in
+    let w = added L _ p c.numbers-numbers.ensures q.sound hp q.free (rw c.get-p.ensures.value at c.add_by.ensures) in
     let m = c.decreases in
-    let f = on-fewer L p q.sound hp q.free w in (
-      omega arith,
-      (on-sound L p q.sound hp q.free w, hp, on-threes L p q.sound hp q.free w q.starts, c.requires.2),
-    )
+    let f = on-fewer L p q.sound hp q.free w in
+    (omega arith, (on-sound L p q.sound hp q.free w, on-threes L p q.sound hp q.free w q.starts))
 
 pub trial-returns : goal.trial-returns
 trial-returns t c =
     let r = c.two_real-real in
     let L = c.args.lines.now in
     let p = c.args.code in
-    let hp = c.requires.0 in
-    let q = c.requires.1 in
-    let w = added L _ p c.requires.2 q.sound hp q.free c.add_by.ensures in (
+    let hp : p < 225 = omega arith in
+    let q = c.requires in
+    let e = rw c.get-p.ensures.value at c.add_by.ensures in
+    let w = added L _ p c.numbers-numbers.ensures q.sound hp q.free e in (
       r.ensures.0 ∙ ap (λ (C : List ℕ). real_double strict_of C p) (on-cells L p q.sound hp q.free w),
-      lifted L _ p c.requires.2 q.sound hp q.free c.add_by.ensures r.ensures.1 c.lift_by.ensures,
+      lifted L _ p c.numbers-numbers.ensures q.sound hp q.free e r.ensures.1 (rw c.get-p.ensures.value at c.lift_by.ensures),
     )

@@ -1,10 +1,28 @@
 -- `referee::front::forbidden_strict_of` meets its contract. Assumes nothing.
+use mathlib.Core.Path.{ap, ◌∙◌}
+use Rattle.rules.specs.Forbidden.{strict_of}
 use Rattle.rules.proofs.Refusals.{unrefused}
 use Rattle.cells.specs.Cells.{cells_refusal_at}
 use Rattle.cells.proofs.Given.{cells-at-in}
+use Rattle.referee.proofs.Bounded.{made, can-make, told_at}
 use Rattle.referee.proofs.front.forbidden_strict_of.Goals as goal
+
+pub unwrap-requires : goal.unwrap-requires
+unwrap-requires c =
+    let a = c.args in
+    let none = unrefused (cells_refusal_at a.cells.now a.code) c.cells_refusal_at.ensures c.in_ok-cells_refusal_at.was in
+    let ok = cells-at-in a.cells.now a.code none in
+    can-make 225 _ c.new.ensures ok.1
 
 pub strict_of-requires : goal.strict_of-requires
 strict_of-requires c =
     let a = c.args in
-    cells-at-in a.cells.now a.code (unrefused (cells_refusal_at a.cells.now a.code) c.cells_refusal_at.ensures c.in_ok-cells_refusal_at.was)
+    let none = unrefused (cells_refusal_at a.cells.now a.code) c.cells_refusal_at.ensures c.in_ok-cells_refusal_at.was in
+    let ok = cells-at-in a.cells.now a.code none in
+    ok.0
+
+pub returns : goal.returns
+returns c =
+    let a = c.args in
+    let none = unrefused (cells_refusal_at a.cells.now a.code) c.cells_refusal_at.ensures c.in_ok-cells_refusal_at.was in
+    told_at _ none (c.strict_of.ensures ∙ ap (strict_of a.cells.now) (made 225 a.code c.new.ensures c.unwrap.ensures))

@@ -1,37 +1,46 @@
 -- `referee::known::looked` meets its contract. Assumes nothing.
 use mathlib.Core.Path.{sym, ◌∙◌}
 use mathlib.Core.Bool.{true, false}
-use Prim.Native.Nat.{◌/◌, ◌%◌}
+use Prim.Native.Nat.{◌/◌, ◌%◌, ◌<◌}
 use native.Mathlib.Omega.{arith}
 use Rattle.grid.specs.Lines.{cells_of}
+use Rattle.referee.proofs.Bounded.{made, can-make}
 use Rattle.referee.proofs.EyeFound.{eye-small}
 use Rattle.referee.proofs.Told.{known-settled, shut-seen, clear-seen}
 use Rattle.referee.proofs.known.looked.Goals as goal
 
-pub rows_on-rows-requires : goal.rows_on-rows-requires
-rows_on-rows-requires c =
-    let t = c.requires in (
-      t.0,
-      eye-small c.args.lines.now c.args.code (c.args.three / 16) (c.args.three % 16) t.0 t.1 (omega (arith, t.2)) t.3
-          c.eye_on-eye.ensures,
-      t.4,
-    )
+pub unwrap-eye-requires : goal.unwrap-eye-requires
+unwrap-eye-requires c =
+    let t = c.requires in
+    let three = c.args.three in
+    let hp : c.args.code < 225 = omega arith in
+    let hd : three / 16 < 4 = omega arith in
+    can-make 225 _ c.new.ensures
+    (eye-small c.args.lines.now c.args.code (three / 16) (three % 16) t.0 hp hd t.1 (c.eye_on.ensures t.0 t.1))
 
 pub returns-then-is_shut : goal.returns-then-is_shut
 returns-then-is_shut c =
     let t = c.requires in
     let three = c.args.three in
-    known-settled (cells_of c.args.lines.now) c.args.code t.5 three t.2 t.3 false
-    (shut-seen c.args.lines.now c.args.code (three / 16) (three % 16) t.0 t.1 (omega (arith, t.2)) t.3
-    c.eye_on-eye.ensures c.rows_on-rows.ensures c.is_shut.ensures c.if-is_shut.true)
-    c.settled.ensures.0 c.settled.ensures.1
+    let hp : c.args.code < 225 = omega arith in
+    let h : three < 64 = omega arith in
+    let hd : three / 16 < 4 = omega arith in
+    let at = made 225 _ c.new.ensures c.unwrap-eye.ensures ∙ c.eye_on.ensures t.0 t.1 in
+    known-settled (cells_of c.args.lines.now) c.args.code t.2 three h t.1 false
+    (shut-seen c.args.lines.now c.args.code (three / 16) (three % 16) t.0 hp hd t.1
+    at (c.rows_on-rows.ensures t.0) c.is_shut.ensures c.if-is_shut.true)
+    c.settled.ensures.0 (rw c.get.ensures.value at c.settled.ensures.1)
 
 pub returns : goal.returns
 returns c =
     let t = c.requires in
     let three = c.args.three in
-    known-settled (cells_of c.args.lines.now) c.args.code t.5 three t.2 t.3 true
-    (clear-seen c.args.lines.now c.args.code (three / 16) (three % 16) t.0 t.1 (omega (arith, t.2)) t.3
-    c.eye_on-eye.ensures c.rows_on-rows.ensures c.is_shut.ensures c.if-is_shut.false
+    let hp : c.args.code < 225 = omega arith in
+    let h : three < 64 = omega arith in
+    let hd : three / 16 < 4 = omega arith in
+    let at = made 225 _ c.new.ensures c.unwrap-eye.ensures ∙ c.eye_on.ensures t.0 t.1 in
+    known-settled (cells_of c.args.lines.now) c.args.code t.2 three h t.1 true
+    (clear-seen c.args.lines.now c.args.code (three / 16) (three % 16) t.0 hp hd t.1
+    at (c.rows_on-rows.ensures t.0) c.is_shut.ensures c.if-is_shut.false
     (sym c.more_than_one.ensures ∙ c.if-more_than_one.false))
-    c.settled-2.ensures.0 c.settled-2.ensures.1
+    (rw c.get-2.ensures.value at c.settled-2.ensures.0) c.settled-2.ensures.1

@@ -6,13 +6,14 @@ use lib.Dec.{T}
 use Rattle.rules.specs.Grid.{starts_of, numbered}
 use Rattle.rules.proofs.Numbered.{next-on}
 use Rattle.grid.specs.Lines.{cells_of}
+use Rattle.referee.proofs.Bounded.{made}
 use Rattle.referee.proofs.Told.{known-none, no-starts, three-at, next-there, next-further}
 use Rattle.referee.proofs.known.looked_at.Goals as goal
 
 pub loop-three-init : goal.loop-three-init
 loop-three-init c =
     let e = c.next_start-three.ensures in (
-      known-none (cells_of c.args.lines.now) c.args.code c.args.threes _ c.requires.2 no-starts,
+      known-none (cells_of c.args.lines.now) c.args.code c.args.threes _ c.requires.1 no-starts,
       λ h. subst (λ (x : ℕ). T (numbered (starts_of c.args.threes) x)) (sym e) (next-on _ 0 (subst (λ (x : ℕ). x < 64) e h)),
     )
 
@@ -21,10 +22,8 @@ looked-known-requires c =
     let t = c.requires in
     let h = c.loop-three-test.true in (
       t.0,
-      t.1,
-      h,
-      three-at (cells_of c.args.lines.now) c.args.code c.args.threes t.2 c.loop-three.three h (c.loop-three.invariant.1 h),
-      t.3,
+      rw (made 64 c.loop-three.three c.new.ensures c.unwrap.ensures)
+          (three-at (cells_of c.args.lines.now) c.args.code c.args.threes t.1 c.loop-three.three h (c.loop-three.invariant.1 h)),
       c.loop-three.invariant.0,
     )
 

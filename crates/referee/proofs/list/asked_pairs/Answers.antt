@@ -8,6 +8,7 @@ use Rattle.rules.specs.Tools.{gather}
 use Rattle.rules.specs.Forbidden.{strict_of, entry, forbidden_list}
 use Rattle.rules.proofs.Listed.{pairs-short}
 use Rattle.lent.proofs.Laws.{gather_none, gather_kept, gather_passed}
+use Rattle.referee.proofs.Bounded.{made}
 use Rattle.referee.proofs.Swept.{column-skip, kind-entry, none-entry}
 use Rattle.referee.proofs.list.asked_pairs.Goals.{then-not-is_none, else-not-is_none, then-bit_at+else-loop-y-test, else-bit_at}
 use Rattle.referee.proofs.list.asked_pairs.Goals as goal
@@ -24,14 +25,15 @@ loop-y-preserved c =
     let v = c.verdict_at-verdict.ensures in
     let C = c.args.cells.now in
     let p = 15 * c.loop-x.x + c.loop-y.y in
+    let told = rw (made 225 p c.new.ensures c.unwrap-point.ensures) at v.0 in
     let f = λ (q : ℕ). entry (strict_of C q) q in
     let next = ap (λ (n : ℕ). gather n f) (let e : p + 1 ≡ 15 * c.loop-x.x + (c.loop-y.y + 1) = omega arith in e) in (
       v.1 ∙ c.loop-y.invariant.0,
       elim c.if-not-is_none.branch [
         | then-not-is_none w ↦ w.found-is ∙ gather_kept 450 f p c.loop-y.invariant.1 _ w.keep.ensures (let s = pairs-short C p in omega arith)
-            (kind-entry p v.0 c.is_none.ensures w.if-not-is_none.true w.number.ensures) ∙ next
+            (kind-entry p told c.is_none.ensures w.if-not-is_none.true w.number.ensures) ∙ next
         | else-not-is_none w ↦ w.found-is ∙ gather_passed 450 f p c.loop-y.invariant.1 refl
-            (none-entry p v.0 c.is_none.ensures w.if-not-is_none.false) ∙ next
+            (none-entry p told c.is_none.ensures w.if-not-is_none.false) ∙ next
       ],
     )
 

@@ -18,5 +18,4 @@ asked_pairs-requires c = (
   (λ h. lines-wanted c.are_many-built.result c.args.cells.now c.lines_if-lines.ensures h),
   c.sweep_points-asked.ensures,
   c.marked_columns-columns.ensures,
-  c.addresses-table.ensures,
 )

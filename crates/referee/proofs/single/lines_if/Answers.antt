@@ -6,7 +6,7 @@ use Rattle.referee.proofs.single.lines_if.Goals as goal
 
 pub returns-then-wanted : goal.returns-then-wanted
 returns-then-wanted c =
-    c.lines_by.ensures ∙ lines-by c.args.cells.now c.args.table.now c.requires ∙ rw c.if-wanted.true
+    c.lines_by.ensures ∙ lines-by c.args.cells.now _ c.numbers.ensures ∙ rw c.if-wanted.true
 
 pub returns : goal.returns
 unfolding zeros

@@ -9,21 +9,21 @@ use Rattle.referee.proofs.single.read_along.Goals as goal
 
 pub overflow_sub-p : goal.overflow_sub-p
 overflow_sub-p c =
-    back-le c.args.d c.args.code c.requires.2 c.requires.1 c.cell_no.ensures c.step_in-step.ensures
+    back-le c.args.d c.get-point.result c.requires.1 c.get-point.ensures.below c.cell_no.ensures c.step_in-step.ensures
 
 pub loop-init : goal.loop-init
 loop-init c =
     let a = c.args in
-    read-at a.cells.now a.d a.code (omega arith)
-    (read-start a.cells.now a.d a.code c.line_no.ensures c.line_size-size.ensures c.cell_no.ensures c.step_in-step.ensures)
+    read-at a.cells.now a.d c.get-point.result (omega arith)
+    (read-start a.cells.now a.d c.get-point.result c.line_no.ensures c.line_size-size.ensures c.cell_no.ensures c.step_in-step.ensures)
 
 pub overflow_sub-p-in-loop : goal.overflow_sub-p-in-loop
 overflow_sub-p-in-loop c =
-    step_room c.args.cells.now c.args.d c.args.code c.loop.invariant c.requires.2 c.requires.1 (let h = c.loop-test.true in omega arith)
+    step_room c.args.cells.now c.args.d c.get-point.result c.loop.invariant c.requires.1 c.get-point.ensures.below (let h = c.loop-test.true in omega arith)
 
 pub overflow_mul-both : goal.overflow_mul-both
 overflow_mul-both c =
-    omega (arith, room c.args.cells.now c.args.d c.args.code c.loop.invariant)
+    omega (arith, room c.args.cells.now c.args.d c.get-point.result c.loop.invariant)
 
 pub bounds-cells-p : goal.bounds-cells-p
 bounds-cells-p c =
@@ -31,22 +31,22 @@ bounds-cells-p c =
     omega (
       arith,
       c.requires.0.long,
-      stands-lt c.args.cells.now c.args.d c.args.code c.loop.invariant c.requires.2 c.requires.1 (omega arith),
+      stands-lt c.args.cells.now c.args.d c.get-point.result c.loop.invariant c.requires.1 c.get-point.ensures.below (omega arith),
     )
 
 pub overflow_add-both : goal.overflow_add-both
 overflow_add-both c =
     let v = get_or c.args.cells.now (c.loop.p - c.step_in-step.result) 0 in
-    omega (arith, room c.args.cells.now c.args.d c.args.code c.loop.invariant, halves-le v c.in_halves.ensures)
+    omega (arith, room c.args.cells.now c.args.d c.get-point.result c.loop.invariant, halves-le v c.in_halves.ensures)
 
 pub loop-preserved : goal.loop-preserved
 loop-preserved c =
     let a = c.args in
     let h = c.loop-test.true in
-    read-at a.cells.now a.d a.code (omega arith)
-    (read-on a.cells.now a.d a.code c.loop.invariant c.requires.2 c.requires.1 (omega arith) refl c.in_halves.ensures)
+    read-at a.cells.now a.d c.get-point.result (omega arith)
+    (read-on a.cells.now a.d c.get-point.result c.loop.invariant c.requires.1 c.get-point.ensures.below (omega arith) refl c.in_halves.ensures)
 
 pub returns : goal.returns
 returns c =
     let h = c.loop-test.false in
-    read-end c.args.cells.now c.args.d c.args.code c.loop.invariant (omega arith)
+    rw (← c.get-point.ensures.value) (read-end c.args.cells.now c.args.d c.get-point.result c.loop.invariant (omega arith))

@@ -5,4 +5,4 @@ use Rattle.referee.proofs.Backward.{Read}
 use Rattle.referee.proofs.single.read_along.Given as goal
 
 abbrev pub invariant-loop : goal.invariant-loop
-invariant-loop l = Read l.cells l.d l.code l.size l.step l.p l.both (l.size - l.counter)
+invariant-loop l = Read l.cells l.d l.point l.size l.step l.p l.both (l.size - l.counter)

@@ -8,9 +8,8 @@ use Rattle.rules.proofs.Refusals.{answered}
 use Rattle.cells.specs.Cells.{codes_refusal, moves_refusal, moves_cells}
 use Rattle.game.specs.Game.{report_of}
 use Rattle.game.specs.Answers.{game_report, reported}
-use Rattle.game.specs.declared.report.GameReport.{GameReport}
-use Rattle.renju.specs.Games.{game_bytes}
-use Rattle.renju.proofs.Handed.{never-refused, bytes-given, refused-out, unwritten, written_out}
+use Rattle.renju.specs.Games.{standing, game_bytes}
+use Rattle.renju.proofs.Handed.{never-refused, number-given, bytes-given, refused-out, unwritten, written_out}
 use Rattle.renju.proofs.games.game_out.Goals as goal
 
 pub returns-in_err-report : goal.returns-in_err-report
@@ -25,7 +24,7 @@ unfolding game_report
 returns-in_err-cells c =
     let s = c.args.moves.now in
     let (none, is) = answered (moves_refusal s) (reported (report_of s)) c.referee_game.ensures c.in_ok-report.was in
-    absurd (never-refused s c.in_ok-report.report.number none
+    absurd (never-refused s c.fault_number-number.result none
     (c.moves_cells.ensures ∙ ap (λ (x : List ℕ). answer (codes_refusal x) (moves_cells x)) c.before_fault.ensures) c.in_err-cells.was)
 
 pub returns-in_err-write_out : goal.returns-in_err-write_out
@@ -33,7 +32,8 @@ unfolding game_report
 returns-in_err-write_out c =
     let s = c.args.moves.now in
     let (none, is) = answered (moves_refusal s) (reported (report_of s)) c.referee_game.ensures c.in_ok-report.was in
-    let played = (answered _ _ c.moves_cells.ensures c.in_ok-cells.was).1 ∙ ap moves_cells c.before_fault.ensures in
+    let played = (answered _ _ c.moves_cells.ensures c.in_ok-cells.was).1
+    ∙ ap moves_cells (c.before_fault.ensures ∙ ap (λ (n : ℕ). standing n s) c.fault_number-number.ensures) in
     unwritten s c.args.out.now none (c.as_slice.ensures.value ∙ c.report_bytes.ensures ∙ bytes-given s is played) c.write_out.ensures _
     c.in_err-write_out.was (search rules)
 
@@ -42,6 +42,7 @@ unfolding game_report reported
 returns c =
     let s = c.args.moves.now in
     let (none, is) = answered (moves_refusal s) (reported (report_of s)) c.referee_game.ensures c.in_ok-report.was in
-    let played = (answered _ _ c.moves_cells.ensures c.in_ok-cells.was).1 ∙ ap moves_cells c.before_fault.ensures in
+    let played = (answered _ _ c.moves_cells.ensures c.in_ok-cells.was).1
+    ∙ ap moves_cells (c.before_fault.ensures ∙ ap (λ (n : ℕ). standing n s) c.fault_number-number.ensures) in
     written_out s c.args.out.now none (c.as_slice.ensures.value ∙ c.report_bytes.ensures ∙ bytes-given s is played) c.write_out.ensures _
-    c.in_ok-write_out.was (ap (λ (r : GameReport). r.number) is)
+    c.in_ok-write_out.was (c.fault_number-number.ensures ∙ number-given s is)

@@ -9,5 +9,5 @@ use Rattle.renju.proofs.games.report_bytes.Goals as goal
 pub returns : goal.returns
 returns c =
     let long : length c.args.cells ≡ 225 = search rules in
-    bytes-kept (c.args.report.number ∷ c.number.result ∷ c.number-2.result ∷ []) c.args.cells refl long c.new-bytes.ensures
-    c.keep.ensures c.keep-2.ensures ∙ rw (c.number.ensures, c.number-2.ensures)
+    bytes-kept (c.fault_number.result ∷ c.reason_number.result ∷ c.winner_number.result ∷ []) c.args.cells refl long c.new-bytes.ensures
+    c.keep.ensures c.keep-2.ensures ∙ rw (c.fault_number.ensures, c.reason_number.ensures, c.winner_number.ensures)

@@ -3,6 +3,7 @@ use mathlib.Core.Path.{◌≡◌, sym, ◌∙◌}
 use native.Mathlib.Omega.{arith}
 use Rattle.rules.specs.Grid.{rows_through}
 use Rattle.rules.specs.declared.Player.TheVariants.{Black}
+use Rattle.second.proofs.Bounded.{made-is}
 use Rattle.second.proofs.Tallied.{seen_far, seen_end}
 use Rattle.second.proofs.count.count_along.Goals as goal
 
@@ -11,7 +12,7 @@ returns-then-j-i-ge2 c =
     let a = c.args in
     let s = rows_through Black a.kind a.board.now a.code a.d in (
       seen_far s c.loop-j.j c.in-Some.i c.loop-j-test.true (rw c.in-Some.is at c.loop-j.invariant)
-          (sym c.is_through.ensures ∙ c.if-is_through.true) c.if-j-i-ge2.true,
+          (rw (made-is 16 _ c.new.ensures c.unwrap.ensures) at (sym c.is_through.ensures ∙ c.if-is_through.true)) c.if-j-i-ge2.true,
       omega arith,
     )
 

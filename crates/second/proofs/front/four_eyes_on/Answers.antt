@@ -5,6 +5,7 @@ use borrow.Author.Rules.{rules}
 use lib.ListN.{length}
 use Rattle.rules.proofs.Refusals.{unrefused}
 use Rattle.lent.proofs.Handed.{handed, turned_down}
+use Rattle.second.proofs.Bounded.{made, made-is}
 use Rattle.second.proofs.Opened.{for-open}
 use Rattle.second.proofs.front.four_eyes_on.Goals as goal
 
@@ -16,13 +17,16 @@ board_of-board-requires c =
     let a = c.args in
     (for-open a.cells.now a.code a.colour (unrefused _ c.colour_refusal_at.ensures c.in_ok-colour_refusal_at.was)).0
 
-pub four_eyes-found-requires : goal.four_eyes-found-requires
-four_eyes-found-requires c =
+pub unwrap-requires : goal.unwrap-requires
+unwrap-requires c =
     let a = c.args in
-    (for-open a.cells.now a.code a.colour (unrefused _ c.colour_refusal_at.ensures c.in_ok-colour_refusal_at.was)).1
+    let z = unrefused _ c.colour_refusal_at.ensures c.in_ok-colour_refusal_at.was in
+    made 225 _ c.new.ensures (for-open a.cells.now a.code a.colour z).1
 
 pub returns : goal.returns
 returns c =
     let listed = c.as_slice.ensures.value in
-    handed 1 _ _ _ (unrefused _ c.colour_refusal_at.ensures c.in_ok-colour_refusal_at.was) (listed ∙ c.four_eyes-found.ensures ∙ rw (c.or_white.ensures, c.board_of-board.ensures))
+    let z = unrefused _ c.colour_refusal_at.ensures c.in_ok-colour_refusal_at.was in
+    let is = made-is 225 _ c.new.ensures c.unwrap.ensures in
+    handed 1 _ _ _ z (listed ∙ c.four_eyes-found.ensures ∙ rw (is, c.or_white.ensures, c.board_of-board.ensures))
     (omega (arith, c.len.ensures.value, ap length listed)) c.hand_out.ensures

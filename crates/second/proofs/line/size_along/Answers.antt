@@ -8,17 +8,17 @@ use Rattle.second.proofs.line.size_along.Goals as goal
 pub overflow_add-result : goal.overflow_add-result
 overflow_add-result c =
     let a = c.args in
-    let w = whole-line a.d a.code c.requires.0 c.requires.1 in
+    let w = whole-line a.d a.code (omega arith) (omega arith) in
     let l = size-le a.d (line_no a.d a.code) in
     record { fits = omega (arith, c.cell_no.ensures) }
 
 pub overflow_add-result-2 : goal.overflow_add-result-2
 overflow_add-result-2 c =
     let a = c.args in
-    let w = whole-line a.d a.code c.requires.0 c.requires.1 in
+    let w = whole-line a.d a.code (omega arith) (omega arith) in
     let l = size-le a.d (line_no a.d a.code) in
     record { fits = omega (arith, c.cell_no.ensures, c.steps_on.ensures) }
 
 pub returns : goal.returns
 returns c =
-    rw (c.cell_no.ensures, c.steps_on.ensures) (whole-line c.args.d c.args.code c.requires.0 c.requires.1)
+    rw (c.cell_no.ensures, c.steps_on.ensures) (whole-line c.args.d c.args.code (omega arith) (omega arith))

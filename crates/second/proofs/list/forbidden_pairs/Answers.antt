@@ -8,7 +8,9 @@ use Rattle.rules.specs.Tools.{gather}
 use Rattle.rules.specs.Numbers.{is_none, verdict_no}
 use Rattle.rules.specs.Forbidden.{strict_of, entry, forbidden_list}
 use Rattle.lent.proofs.Laws.{gather_none, gather_kept, gather_passed, short}
+use Rattle.second.proofs.Bounded.{made-is}
 use Rattle.second.proofs.list.forbidden_pairs.Goals as goal
+use Rattle.second.proofs.Bounded.{made-is}
 use Rattle.second.proofs.list.forbidden_pairs.Goals.{then-not-is_none, else-not-is_none}
 
 pub loop-p-init : goal.loop-p-init
@@ -19,7 +21,8 @@ loop-p-preserved c =
     let C = c.args.board.now in
     let p = c.loop-p.p in
     let f : ℕ → List ℕ = λ (q : ℕ). entry (strict_of C q) q in
-    let e = c.strict-verdict.ensures.0 ∙ ap (λ (x : List ℕ). strict_of x p) c.loop-p.invariant.0 in
+    let e = c.strict-verdict.ensures.0 ∙ ap (λ (x : List ℕ). strict_of x c.unwrap.result) c.loop-p.invariant.0
+    ∙ ap (strict_of C) (made-is 225 _ c.new.ensures c.unwrap.ensures) in
     let fit = short 2 (λ q. not (is_none (strict_of C q))) (λ q. verdict_no (strict_of C q) ∷ q ∷ []) (λ q. omega arith) p in (
       c.strict-verdict.ensures.1 ∙ c.loop-p.invariant.0,
       elim c.if-not-is_none.branch [

@@ -25,9 +25,9 @@ loop-i-preserved c =
     let fit = eyes-so-far a.player a.board.now a.code a.d i in
     let z = size-le a.d (line_no a.d a.code) in
     elim c.if-is_four_eye.branch [
-      | then-is_four_eye w ↦ w.list-is ∙ behind_kept _ a.list.now f i c.loop-i.invariant (w.point_along.result ∷ []) w.keep.ensures
-          (omega (arith, long, fit, z, c.loop-i-test.true, c.size_along-i-end.ensures, c.requires.2))
-          (rw (w.point_along.ensures.0, sym c.is_four_eye.ensures ∙ w.if-is_four_eye.true))
+      | then-is_four_eye w ↦ w.list-is ∙ behind_kept _ a.list.now f i c.loop-i.invariant (w.get.result ∷ []) w.keep.ensures
+          (omega (arith, long, fit, z, c.loop-i-test.true, c.size_along-i-end.ensures, c.requires))
+          (rw (w.get.ensures.value, w.point_along.ensures, sym c.is_four_eye.ensures ∙ w.if-is_four_eye.true))
       | else-is_four_eye w ↦ behind_passed 0 a.list.now f i c.loop-i.invariant w.list-is
           (rw (sym c.is_four_eye.ensures ∙ w.if-is_four_eye.false))
     ]

@@ -12,13 +12,18 @@ returns c =
     rw (
       c.worth.ensures.0,
       c.is_eye.ensures,
+      c.get.ensures.value,
       c.worth-2.ensures.0,
       c.is_eye-2.ensures,
+      c.get-2.ensures.value,
       c.worth-3.ensures.0,
       c.is_eye-3.ensures,
+      c.get-3.ensures.value,
       c.worth-4.ensures.0,
       c.is_eye-4.ensures,
+      c.get-4.ensures.value,
       c.worth-5.ensures.0,
       c.is_eye-5.ensures,
+      c.get-5.ensures.value,
     )
     (five-worth (eye_on a.player a.kind a.board.now a.d (line_no a.d a.code) a.j) a.j)

@@ -12,13 +12,18 @@ returns c =
     rw (
       c.worth.ensures.0,
       c.has_stone.ensures,
+      c.get.ensures.value,
       c.worth-2.ensures.0,
       c.has_stone-2.ensures,
+      c.get-2.ensures.value,
       c.worth-3.ensures.0,
       c.has_stone-3.ensures,
+      c.get-3.ensures.value,
       c.worth-4.ensures.0,
       c.has_stone-4.ensures,
+      c.get-4.ensures.value,
       c.worth-5.ensures.0,
       c.has_stone-5.ensures,
+      c.get-5.ensures.value,
     )
     (five-worth (stone_at a.player a.board.now a.d (line_no a.d a.code)) a.j)

@@ -1,6 +1,6 @@
 -- The six functions of the cycle meet their contracts. What falls at each call is six times the number of empty points, and a little: on
 -- one board `count_real` 6, `count_real_along` 5, `is_real` 4, `strict_by` 3, `plain` 2, `is_double_three` 1. Assumes nothing.
-use mathlib.Core.Path.{◌≡◌, refl, ap, sym, ◌∙◌}
+use mathlib.Core.Path.{◌≡◌, refl, ap, ap₂, sym, ◌∙◌}
 use mathlib.Core.List.{List}
 use Prim.Native.Nat.{ℕ}
 use native.Mathlib.Omega.{arith}
@@ -8,6 +8,7 @@ use Rattle.rules.specs.Forbidden.{real_threes, strict_of, plain_of, plain_with, 
 use Rattle.rules.proofs.Logic.{true-T}
 use Rattle.rules.proofs.Gap.{eye-free, five-not-real, real-told}
 use Rattle.second.specs.Count.{row_count, rows_along}
+use Rattle.second.proofs.Bounded.{made-is}
 use Rattle.second.proofs.Tallied.{seen_far, seen_end}
 use Rattle.second.proofs.Asked.{some-true, some-false, more-true, more-false, more-is, asked-five, asked-plain}
 use Rattle.second.proofs.Asked.{five-true, five-false, zero-there}
@@ -17,15 +18,15 @@ use Rattle.second.proofs.verdict.+questions.Goals as goal
 pub count_real-returns : goal.count_real-returns
 unfolding row_count
 count_real-returns t c =
-    let p = c.args.code in
+    let real : List ℕ → ℕ → ℕ = λ x d. rows_along (real_threes strict_of x c.args.code d) in
     let e = c.count_real_along-vertical.ensures.2 in
     let f = c.count_real_along-horizontal.ensures.2 ∙ e in
     let g = c.count_real_along-ascending.ensures.2 ∙ f in (
       rw (
-        c.count_real_along-vertical.ensures.0,
-        c.count_real_along-horizontal.ensures.0 ∙ ap (λ (x : List ℕ). rows_along (real_threes strict_of x p 1)) e,
-        c.count_real_along-ascending.ensures.0 ∙ ap (λ (x : List ℕ). rows_along (real_threes strict_of x p 2)) f,
-        c.count_real_along-descending.ensures.0 ∙ ap (λ (x : List ℕ). rows_along (real_threes strict_of x p 3)) g,
+        c.count_real_along-vertical.ensures.0 ∙ ap (real c.args.board.now) c.way.ensures,
+        c.count_real_along-horizontal.ensures.0 ∙ ap₂ real e c.way-2.ensures,
+        c.count_real_along-ascending.ensures.0 ∙ ap₂ real f c.way-3.ensures,
+        c.count_real_along-descending.ensures.0 ∙ ap₂ real g c.way-4.ensures,
       ) refl,
       c.count_real_along-descending.ensures.2 ∙ g,
     )
@@ -35,8 +36,9 @@ count_real_along-returns-then-j-i-ge2 t c =
     let r = c.is_real.ensures in
     let a = c.args in
     let e = c.loop-j.invariant.0 in
-    let is = r.0 ∙ ap (λ (x : List ℕ). real_threes strict_of x a.code a.d c.loop-j.j) e in (
-      seen_far _ c.loop-j.j c.in-Some.i c.loop-j-test.true (rw c.in-Some.is at c.loop-j.invariant.1) (sym is ∙ c.if-is_real.true)
+    let is = r.0 ∙ ap (λ (x : List ℕ). real_threes strict_of x a.code a.d c.unwrap.result) e in (
+      seen_far _ c.loop-j.j c.in-Some.i c.loop-j-test.true (rw c.in-Some.is at c.loop-j.invariant.1)
+          (rw (made-is 16 _ c.new.ensures c.unwrap.ensures) at (sym is ∙ c.if-is_real.true))
           c.if-j-i-ge2.true,
       omega arith,
       r.1 ∙ e,
@@ -67,8 +69,8 @@ is_double_three-count_real-real-requires t c =
     let a = c.args in
     let p = c.requires in
     let m = c.decreases in
-    let f = with-fewer a.board.now a.code p.0 p.1 p.2 in
-    (omega arith, (with-ok a.board.now a.code p.0 p.1 p.2, p.1))
+    let f = with-fewer a.board.now a.code p.0 (omega arith) p.1 in
+    rw c.get.ensures.value (omega arith, with-ok a.board.now a.code p.0 (omega arith) p.1)
 
 pub is_double_three-returns : goal.is_double_three-returns
 unfolding is_double_three
@@ -76,8 +78,8 @@ is_double_three-returns t c =
     let r = c.count_real-real.ensures in
     let a = c.args in
     let p = c.requires in (
-      rw (more-true _ c.count_rows.ensures c.if-count_rows-lt2.false) (more-is _ r.0),
-      written_back a.board.now a.code p.0 p.1 p.2 r.1,
+      rw (more-true _ c.count_rows.ensures c.if-count_rows-lt2.false) (more-is _ (rw c.get.ensures.value at r.0)),
+      rw c.get-2.ensures.value (written_back a.board.now a.code p.0 (omega arith) p.1 (rw c.get.ensures.value at r.1)),
     )
 
 pub is_real-returns-then-not-is_through : goal.is_real-returns-then-not-is_through
@@ -91,7 +93,7 @@ unfolding real_threes
 is_real-returns-then-fours-ge1 t c =
     let a = c.args in
     let on = sym c.is_through.ensures ∙ c.if-not-is_through.false in (
-      five-not-real a.board.now a.code a.d a.j c.requires.2 c.requires.1 (true-T on) strict_of c.eye_of-eye.ensures.0
+      five-not-real a.board.now a.code a.d a.j (omega arith) (omega arith) (true-T on) strict_of c.eye_of-eye.ensures
           (five-true a.board.now _ c.count_rows-fours.ensures c.if-fours-ge1.true) ∙ rw on refl,
       refl,
     )
@@ -104,10 +106,9 @@ is_real-strict_by-requires t c =
     let on = true-T (sym c.is_through.ensures ∙ c.if-not-is_through.false) in (
       omega arith,
       (
-        c.requires.0,
-        e.1,
-        zero-there a.board.now _ c.requires.0 e.1
-            (rw e.0 (eye-free a.board.now a.code a.d a.j c.requires.2 c.requires.1 on)),
+        c.requires,
+        zero-there a.board.now _ c.requires (omega arith)
+            (rw e (eye-free a.board.now a.code a.d a.j (omega arith) (omega arith) on)),
         c.count_rows-fours.ensures,
       ),
     )
@@ -118,7 +119,7 @@ is_real-returns t c =
     let a = c.args in
     let on = sym c.is_through.ensures ∙ c.if-not-is_through.false in (
       c.is_none.ensures
-          ∙ real-told a.board.now a.code a.d a.j c.requires.2 c.requires.1 (true-T on) strict_of c.eye_of-eye.ensures.0
+          ∙ real-told a.board.now a.code a.d a.j (omega arith) (omega arith) (true-T on) strict_of c.eye_of-eye.ensures
           (five-false a.board.now _ c.count_rows-fours.ensures c.if-fours-ge1.false) c.strict_by.ensures.0 ∙ rw on refl,
       c.strict_by.ensures.1,
     )
@@ -161,12 +162,12 @@ pub strict_by-returns-then-fours-ge1 : goal.strict_by-returns-then-fours-ge1
 strict_by-returns-then-fours-ge1 t c =
     let a = c.args in
     let p = c.requires in
-    (asked-five a.board.now a.code p.0 p.1 p.2 p.3 c.if-fours-ge1.true, refl)
+    (asked-five a.board.now a.code p.0 (omega arith) p.1 p.2 c.if-fours-ge1.true, refl)
 
 pub strict_by-returns : goal.strict_by-returns
 strict_by-returns t c =
     let a = c.args in
     let p = c.requires in (
-      c.plain.ensures.0 ∙ asked-plain a.board.now a.code p.0 p.1 p.2 p.3 c.if-fours-ge1.false,
+      c.plain.ensures.0 ∙ asked-plain a.board.now a.code p.0 (omega arith) p.1 p.2 c.if-fours-ge1.false,
       c.plain.ensures.1,
     )

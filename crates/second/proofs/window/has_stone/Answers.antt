@@ -9,7 +9,7 @@ use Rattle.second.proofs.window.has_stone.Goals as goal
 pub returns-then-i-size_along : goal.returns-then-i-size_along
 returns-then-i-size_along c =
     let a = c.args in
-    rw (c.point_along.ensures.0, c.number.ensures)
+    rw (c.get.ensures.value, c.point_along.ensures, c.number.ensures)
     (sym (stone-in a.player a.board.now a.d (line_no a.d a.code) a.i (omega
     (arith, c.size_along.ensures, c.if-i-size_along.true))))
 

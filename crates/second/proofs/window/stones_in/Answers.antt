@@ -20,10 +20,10 @@ loop-k-preserved c =
     elim c.if-has_stone.branch [
       | then-has_stone w ↦ (
         omega arith,
-        w.n-is ∙ ap (λ (x : ℕ). x + 1) e ∙ count-one own a.j k (sym c.has_stone.ensures ∙ w.if-has_stone.true),
+        w.n-is ∙ ap (λ (x : ℕ). x + 1) e ∙ count-one own a.j k (rw c.get.ensures.value at (sym c.has_stone.ensures ∙ w.if-has_stone.true)),
       )
       | else-has_stone w ↦
-          (omega arith, w.n-is ∙ e ∙ count_same own a.j k (sym c.has_stone.ensures ∙ w.if-has_stone.false))
+          (omega arith, w.n-is ∙ e ∙ count_same own a.j k (rw c.get.ensures.value at (sym c.has_stone.ensures ∙ w.if-has_stone.false)))
     ]
 
 pub returns : goal.returns
