@@ -18,7 +18,7 @@ use Rattle.rules.specs.declared.refusal.Refusal.{Refusal}
 use Rattle.rules.specs.declared.Player.{Player}
 use Rattle.rules.specs.declared.Player.TheVariants.{Black, White}
 use Rattle.rules.proofs.Logic.{true-T, decide, and_left, and_right, and_intro}
-use Rattle.rules.proofs.Refusals.{first-none, none_first, passed, pass, answered}
+use Rattle.rules.proofs.Refusals.{first-none, none_first, passed, pass, answered, answered_err}
 use Rattle.point.proofs.Refused.{code_in}
 use Rattle.cells.specs.Cells.{Cells, cells_refusal}
 use Rattle.cells.specs.Counts.{stones_count}
@@ -176,6 +176,12 @@ module _ (refused : ℕ) (c : List ℕ) {answer : Result Board Refusal} {b : Boa
 
     pub made_cells : cells b ≡ c
     made_cells = ap cells made-board ∙ board-cells c (ok made-refusal)
+
+-- .. and what an answer without one says: something is refused, and that is told
+pub made-refused : (refused : ℕ) (c : List ℕ) {answer : Result Board Refusal} {x : Refusal} → answer ≡ board_answer refused c → answer ≡ Err x
+    → (refused ≡ 0 → ⊥) × (x ≡ refusal_named refused)
+unfolding board_answer
+made-refused refused c e err = answered_err refused (board_of c) e err
 
 -- ---- where nothing is refused the value is given
 

@@ -1,17 +1,45 @@
--- The order of byte lists: that it is the one of arrays, and that it is one: of two lists one is less, or they are the same. Assumes nothing.
+-- The order of byte lists: as a loop compares them, that it is the one of arrays, and that it is one: of two lists one is less, or they are the same. Assumes nothing.
 use mathlib.Core.Path.{◌≡◌, refl, sym, ap₂, ◌∙◌}
 use mathlib.Core.Logic.{◌⊎◌, inl, inr}
 use mathlib.Core.Bool.{true, false}
 use mathlib.Core.List.{List, [], ◌∷◌}
-use Prim.Native.Nat.{ℕ, ◌<◌}
+use Prim.Native.Nat.{ℕ, ◌+◌, ◌≤◌, ◌<◌}
 use native.Mathlib.Omega.{arith}
+use native.Mathlib.Numerals.{add-one}
 use lib.Dec.{eqb, ltb}
+use lib.ListN.{length, get_or, drop, drop_of_length-le}
+use lib.Seq.{drop-cons}
 use borrow.Author.Tests.{eq-eqb, ne_eqb, eqb-true, eqb-false, ltb-true, ltb-false, lt-ltb, le-ltb}
 use Rattle.std.specs.Prelude.{Some}
 use Rattle.std.specs.Ordering.{nat_cmp, partial_lt}
 use Rattle.std.specs.Cmp.Lexicographic.{slice_partial_cmp}
 use Rattle.rules.proofs.Logic.{decide, no_true}
 use Rattle.canonical.specs.Canonical.{less}
+
+-- ---- as a loop compares: byte by byte
+
+pub less-more : (s t : List ℕ) (i : ℕ) → i < length s → i < length t → get_or s i 0 ≡ get_or t i 0
+    → less (drop i s) (drop i t) ≡ less (drop (i + 1) s) (drop (i + 1) t)
+unfolding less
+less-more s t i hs ht e = rw (drop-cons s i 0 hs, drop-cons t i 0 ht, add-one i, eq-eqb (get_or s i 0) (get_or t i 0) e)
+
+pub less-differ : (s t : List ℕ) (i : ℕ) → i < length s → i < length t → (get_or s i 0 ≡ get_or t i 0 → ⊥)
+    → less (drop i s) (drop i t) ≡ ltb (get_or s i 0) (get_or t i 0)
+unfolding less
+less-differ s t i hs ht e = rw (drop-cons s i 0 hs, drop-cons t i 0 ht, ne_eqb (get_or s i 0) (get_or t i 0) e)
+
+-- the first ends before the second; the second is at its end
+pub less-short : (s t : List ℕ) (i : ℕ) → length s ≤ i → i < length t → less (drop i s) (drop i t) ≡ true
+unfolding less
+less-short s t i hs ht = rw (drop_of_length-le s {i = i} hs, drop-cons t i 0 ht)
+
+pub less-end : (s t : List ℕ) (i : ℕ) → length t ≤ i → less (drop i s) (drop i t) ≡ false
+unfolding less
+less-end s t i h = rw (drop_of_length-le t {i = i} h) (none (drop i s))
+  where
+    none : (r : List ℕ) → less r [] ≡ false
+    none [] = refl
+    none (a ∷ r) = refl
 
 -- ---- as arrays of bytes are compared
 

@@ -3,6 +3,7 @@ ghost use Rattle.std.specs.Prelude.{◌≡◌};
 ghost use Rattle.rules.specs.Views.{turn_cells};
 ghost use Rattle.canonical.specs.Canonical.{canonical_view};
 
+use super::order::less;
 use cells::turned_cells;
 
 // A view and the cells of the board in it.
@@ -20,7 +21,7 @@ pub(crate) fn least_seen(cells: &[u8]) -> Seen
     let mut first = 0u8;
     for view in 1..8u8 {
         let other = turned_cells(cells, view);
-        if other < least {
+        if less(&other, &least) {
             least = other;
             first = view;
         }

@@ -3,5 +3,6 @@
 
 mod front;
 mod least;
+mod order;
 
 pub use front::canonical_of;

@@ -30,6 +30,6 @@ fn convert<R: Print + Eprint>(rt: &R, text: &[u8]) {
                 "convert: standard output cannot be written\n",
             );
         }
-        Err(refusal) => refuse(rt, refusal),
+        Err(refusal) => refuse(rt, refusal as u8),
     }
 }

@@ -1,4 +1,6 @@
 -- The laws behind `display`, for other crates to cite.
+-- texts written one behind the other
+pub mod Writing
 -- the cells that are written one step after the other
 pub mod Steps
 -- a turn of a loop that writes

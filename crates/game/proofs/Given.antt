@@ -7,7 +7,8 @@ use lib.Dec.{eqb}
 use Rattle.std.specs.Prelude.{Option, None, Result, Ok, Err}
 use Rattle.rules.specs.Answers.{answer, refusal_named}
 use Rattle.rules.specs.declared.refusal.Refusal.{Refusal}
-use Rattle.rules.proofs.Refusals.{answered}
+use Rattle.rules.proofs.Refusals.{answered, answered_err}
+use borrow.Author.Tests.{eq-eqb, ne_eqb}
 use Rattle.rules.specs.Numbers.{opponent_of}
 use Rattle.rules.specs.Grid.{put}
 use Rattle.rules.specs.Fives.{makes_five}
@@ -55,10 +56,12 @@ module _ (refused : ℕ) (moves : List ℕ) {r : GameReport} (e : game_report re
 
 -- an answer says what was refused
 pub answer-refused : (refused : ℕ) (report : Report) {e : Refusal} → game_report refused report ≡ Err e → e ≡ refusal_named refused
+unfolding game_report
+answer-refused refused report was = (answered_err refused (reported report) refl was).1
+
+-- .. exactly where something was
+pub answer-told : (refused : ℕ) (report : Report)
+    → (refused ≡ 0 → game_report refused report ≡ Ok (reported report))
+    × ((refused ≡ 0 → ⊥) → game_report refused report ≡ Err (refusal_named refused))
 unfolding game_report answer
-answer-refused refused report {e} was = go (eqb refused 0) was
-  where
-    go : (b : Bool) → ◌≡◌ {A = Result GameReport Refusal} (cond b (Ok (reported report)) (Err (refusal_named refused))) (Err e)
-        → e ≡ refusal_named refused
-    go true q = cc
-    go false q = cc
+answer-told refused report = (λ z. rw (eq-eqb refused 0 z), λ n. rw (ne_eqb refused 0 n))

@@ -71,7 +71,7 @@ fn hint<R: Input + Print + Eprint>(rt: &R, asked: Asked) {
     let mut line = [0u8; 11];
     match line_of(head(&text, n), asked, &mut line) {
         Ok(count) => write_line(rt, head(&line, count as usize)),
-        Err(refusal) => refuse(rt, refusal),
+        Err(refusal) => refuse(rt, refusal as u8),
     }
 }
 

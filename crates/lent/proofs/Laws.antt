@@ -1,16 +1,22 @@
 -- The laws of gathered lists, and of the buffers that hold them: a loop that collects keeps `gather i f`, and a turn of it is
--- `gather_kept`, `gather_put` or `gather_passed`. Assumes nothing.
-use mathlib.Core.Path.{◌≡◌, refl, ap, sym, ◌∙◌}
-use mathlib.Core.Bool.{Bool, true, false}
+-- `gather-step`, that is `gather_kept` or `gather_passed`, or `gather_put`; `list-end` says what a list that a buffer holds is handed out
+-- as. Assumes nothing.
+use mathlib.Core.Path.{◌≡◌, refl, ap, ap₂, sym, ◌∙◌}
+use mathlib.Core.Bool.{Bool, true, false, cond}
 use mathlib.Core.List.{List, [], ◌∷◌, ◌++◌, append-nil}
-use Prim.Native.Nat.{ℕ, zero, suc, ◌+◌, ◌*◌, ◌≤◌, ◌<◌, min}
+use Prim.Native.Nat.{ℕ, zero, suc, ◌+◌, ◌-◌, ◌*◌, ◌≤◌, ◌<◌, min}
+use native.Mathlib.Nat.{add-zero}
 use native.Mathlib.Numerals.{add-one, unary_clauses}
 use native.Mathlib.Omega.{arith}
-use lib.ListN.{length, get_or, take, length-append, length-replicate}
+use lib.ListN.{length, get_or, take, set, length-append, length-replicate}
+use lib.Seq.{take_at, take-suc, length-take-le, sets}
 use borrow.Author.Tests.{le-leb, ne_eqb}
+use Rattle.std.specs.Prelude.{Result}
 use Rattle.rules.specs.Refusals.{first}
+use Rattle.rules.specs.Answers.{checked}
+use Rattle.rules.specs.declared.refusal.Refusal.{Refusal}
 use Rattle.rules.specs.Tools.{gather, only}
-use Rattle.lent.specs.Lists.{list_refusal, list_out, kept, zeros}
+use Rattle.lent.specs.Lists.{list_refusal, list_out, kept, zeros, padded, Held}
 
 -- ---- gathered lists
 
@@ -46,6 +52,24 @@ unfolding gather
 gather-nothing zero f h = refl
 gather-nothing (suc n) f h = rw (gather-nothing n f h, h n)
 
+-- ---- stores, one after the other
+
+sets-append : (old : List ℕ) (at : ℕ) (l m : List ℕ) → sets (sets old at l) (at + length l) m ≡ sets old at (l ++ m)
+sets-append old at [] m = ap (λ (k : ℕ). sets old k m) (add-zero at)
+sets-append old at (a ∷ l) m =
+    let e : at + suc (length l) ≡ suc at + length l = omega arith in
+    ap (λ (k : ℕ). sets (sets (set old at a) (suc at) l) k m) e ∙ sets-append (set old at a) (suc at) l m
+
+-- a turn of a loop that copies
+pub sets_more : (old from : List ℕ) (at i : ℕ) → i < length from
+    → set (sets old at (take i from)) (at + i) (get_or from i 0) ≡ sets old at (take (i + 1) from)
+sets_more old from at i h =
+    let l : List ℕ = take i from in
+    let e : i ≡ length l = sym (length-take-le i from (omega arith)) in
+    ap (λ (k : ℕ). set (sets old at l) (at + k) (get_or from i 0)) e
+    ∙ sets-append old at l (get_or from i 0 ∷ [])
+    ∙ ap (sets old at) (sym (ap (λ (k : ℕ). take k from) (add-one i) ∙ take-suc from i 0 h))
+
 -- ---- a list that is kept item by item
 
 -- an item for which there is room
@@ -67,6 +91,12 @@ module _ (size : ℕ) (f : ℕ → List ℕ) (i : ℕ) {l new : List ℕ} (h : l
   -- .. at which f gives nothing
   pub gather_passed : new ≡ l → f i ≡ [] → new ≡ gather (i + 1) f
   gather_passed k e = k ∙ h ∙ sym (append-nil (gather i f)) ∙ ap (λ (x : List ℕ). gather i f ++ x) (sym e) ∙ gather-more i f
+
+-- a turn of a loop over i that keeps at most one item: f gives that item, if on
+pub gather-step : (size : ℕ) (f : ℕ → List ℕ) (i : ℕ) (l : List ℕ) (on : Bool) (item new : List ℕ) → l ≡ gather i f
+    → length (gather i f) + length item ≤ size → new ≡ cond on (kept size l item) l → f i ≡ only on item → new ≡ gather (i + 1) f
+gather-step size f i l true item new h room k e = gather_kept size f i h item k room e
+gather-step size f i l false item new h room k e = gather_passed size f i h k e
 
 -- ---- a fresh buffer
 
@@ -92,3 +122,21 @@ take-least (suc n) (a ∷ l) = simp unary_clauses (ap (λ (x : List ℕ). a ∷ 
 pub kept_out : (told : ℕ) (out a : List ℕ) → (told ≡ 0 → ⊥) → (list_refusal told out a ≡ told) × (out ≡ list_out told out a)
 unfolding list_out list_refusal first
 kept_out told out a n = let z = ne_eqb told 0 n in (rw (z), rw (z, z))
+
+-- ---- a buffer that holds a list
+
+-- a list is read back
+take-padded : (size : ℕ) (l : List ℕ) → take (length l) (padded size l) ≡ l
+unfolding padded
+take-padded size l = take_at l (zeros (size - length l)) (length l) refl
+
+held-take : (size : ℕ) {a from : List ℕ} {len : ℕ} → Held size a from len → take len from ≡ a
+held-take size {a} h = ap₂ {C = List ℕ} take h.count h.buffer ∙ take-padded size a
+
+-- the end of a function that lists: `write_out` was given a buffer that holds a
+pub list-end : (size refused : ℕ) (out a from : List ℕ) (len : ℕ) {r : Result Unit Refusal} {out' : List ℕ} → Held size a from len
+    → (r ≡ checked (list_refusal refused out (take len from))) × (out' ≡ list_out refused out (take len from))
+    → (r ≡ checked (list_refusal refused out a)) × (out' ≡ list_out refused out a)
+list-end size refused out a from len h k =
+    let held = held-take size h in
+    (k.0 ∙ ap (λ (x : List ℕ). checked (list_refusal refused out x)) held, k.1 ∙ ap (list_out refused out) held)

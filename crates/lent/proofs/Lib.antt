@@ -5,3 +5,5 @@ pub mod Laws
 pub mod Found
 -- a list that is handed out with a count
 pub mod Handed
+-- a list in the front of a local buffer, with zeros behind it
+pub mod Spare

@@ -1,5 +1,5 @@
 -- Lists given back: kept item by item in a local buffer, and laid over a lent one.
-use Rattle.std.specs.Prelude.{Bool, cond, List, ◌++◌, ℕ, ◌+◌, ◌/◌, leb, eqb, length, drop, replicate, Result}
+use Rattle.std.specs.Prelude.{◌≡◌, Bool, cond, List, ◌++◌, ℕ, ◌+◌, ◌-◌, ◌/◌, leb, eqb, length, drop, replicate, Result}
 use Rattle.rules.specs.Refusals.{no_room, unless, first}
 use Rattle.rules.specs.Answers.{answer}
 use Rattle.rules.specs.declared.refusal.Refusal.{Refusal}
@@ -31,3 +31,12 @@ kept n l item = cond (leb (length l + length item) n) (l ++ item) l
 -- a fresh buffer of n bytes
 unfoldable pub zeros : ℕ → List ℕ
 zeros n = replicate n 0
+
+-- a local buffer of n bytes that holds a list, with zeros behind it
+unfoldable pub padded : ℕ → List ℕ → List ℕ
+padded n l = l ++ zeros (n - length l)
+
+-- buf, of `size` bytes, holds l, and n of its bytes are l
+pub record Held (size : ℕ) (l buf : List ℕ) (n : ℕ) : Type 0 where
+  pub buffer : buf ≡ padded size l
+  pub count : n ≡ length l

@@ -8,8 +8,8 @@ ghost use Rattle.lent.specs.Lists.{kept, list_refusal, list_out};
 use rules::Refusal;
 use std::marker::Model;
 
-// A list of bytes in a local buffer with room for N.
-#[derive(Drop)]
+// A list of bytes in a local buffer with room for N, and zeros behind it.
+#[derive(Clone, Copy)]
 pub struct Kept<const N: usize> {
     bytes: [u8; N],
     len: usize,
@@ -17,11 +17,19 @@ pub struct Kept<const N: usize> {
 
 // Clauses see the list.
 impl<const N: usize> Model for Kept<N> {
+    ghost use Rattle.std.specs.Prelude.{◌≤◌, List, ℕ, length, take};
+    ghost use Rattle.std.proofs.Common.{sym};
+    ghost use Rattle.lent.specs.Lists.{padded, Held};
+
     ghost Value = { List ℕ };
 
     ghost view = { λ k. take k.len k.bytes };
 
-    ghost invariant = { λ k. k.len ≤ N };
+    ghost invariant = { λ k. (k.len ≤ N) × Held N (take k.len k.bytes) k.bytes k.len };
+
+    ghost inverse = { λ l. record { bytes = padded N l; len = length l } };
+
+    ghost inverse_ok = { λ k h i. record { bytes = sym h.1.buffer i; len = sym h.1.count i } };
 }
 
 impl<const N: usize> Kept<N> {

@@ -25,6 +25,6 @@ fn mend<R: Print + Eprint>(rt: &R, text: &[u8]) {
             head(&out, n as usize),
             "mend: standard output cannot be written\n",
         ),
-        Err(refusal) => refuse_on_output(rt, refusal),
+        Err(refusal) => refuse_on_output(rt, refusal as u8),
     }
 }

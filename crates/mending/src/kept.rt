@@ -10,7 +10,7 @@ use rules::Refusal;
 use text::{has, read_leading};
 
 // The codes of the moves that are kept, and the item that slips, where one does.
-#[derive(Drop)]
+#[derive(Clone, Copy)]
 pub struct Mended {
     pub moves: Kept<225>,
     pub slip: Option<Slip>,

@@ -6,7 +6,6 @@
 ghost use Rattle.std.specs.Prelude.{◌≡◌, true, ◌<◌, ◌≤◌, T, length, take};
 
 use lent::head;
-use rules::Refusal;
 use std::env::FillError;
 use std::io::Read;
 use std::rt::Env;
@@ -58,13 +57,13 @@ pub fn write<R: Print + Eprint>(rt: &R, bytes: &[u8], failed: &str) {
 }
 
 // `refused N`, on a line of standard error.
-pub fn refuse<R: Eprint>(rt: &R, refusal: Refusal) {
-    let _ = eprintln!(rt; "{refusal}");
+pub fn refuse<R: Eprint>(rt: &R, number: u8) {
+    let _ = eprintln!(rt; "refused {number}");
 }
 
 // .. of standard output, where a program writes its refusals there.
-pub fn refuse_on_output<R: Print>(rt: &R, refusal: Refusal) {
-    let _ = println!(rt; "{refusal}");
+pub fn refuse_on_output<R: Print>(rt: &R, number: u8) {
+    let _ = println!(rt; "refused {number}");
 }
 
 // On standard error.

@@ -29,8 +29,13 @@ use Rattle.grid.proofs.Lines.{line_at, mask-sound, stone-bits, length-cells_of, 
 use Rattle.grid.proofs.RowStarts.{none-short}
 use Rattle.near.specs.Rows.{RowsAre}
 use Rattle.near.specs.declared.rows.Rows.{Rows}
-use Rattle.referee.specs.Referee.{strict_by}
+use Rattle.referee.specs.Referee.{strict_by, walk_by}
 use Rattle.referee.proofs.RowsSeen.{strict-is}
+
+-- a walk that stays among the points is one of plain numbers
+pub walk-inside : (p back on : ℕ) → p < 256 → back ≤ p → on ≤ 224 → p - back + on < 225 → walk_by p back on ≡ p - back + on
+unfolding walk_by
+walk-inside p back on hp hb ho h = omega (arith, hp, hb, ho, h)
 
 module _ (l : List ℕ) (p d j : ℕ) (s : Sound l) (hp : p < 225) (hd : d < 4) (t : T (rows_through Black Three (cells_of l) p d j)) where
   -- its line is stored

@@ -2,7 +2,7 @@
 use mathlib.Core.Path.{◌≡◌, refl, ap, sym, subst, ◌∙◌}
 use mathlib.Core.Bool.{Bool, true, false, ◌&&◌}
 use mathlib.Core.List.{List, [], ◌∷◌}
-use Prim.Native.Nat.{ℕ, zero, suc, ◌+◌, ◌*◌, ◌≤◌, ◌<◌}
+use Prim.Native.Nat.{ℕ, zero, suc, ◌+◌, ◌-◌, ◌*◌, ◌/◌, ◌%◌, ◌≤◌, ◌<◌}
 use native.Mathlib.Omega.{arith}
 use lib.Dec.{T, eqb}
 use lib.ListN.{get_or, length}
@@ -40,19 +40,35 @@ module _ (cells : List ℕ) (long : length cells ≡ 225) where
         (ap (λ (l : List ℕ). any_below 26 (λ i. bit (get_or l i 0) (x_of p))) (sym em)
         ∙ sym (ap (λ (x : ℕ). bit x (x_of p)) ec ∙ bit_mask 16 (λ x. any_below 26 (λ i. bit (get_or m i 0) x)) (x_of p) (omega arith)) ∙ z))
 
-    -- .. so the list of the points below column x is that of the points below the next
-    pub column-skip : (x : ℕ) → x < 15 → bit columns x ≡ false
-        → gather (15 * (x + 1)) (λ q. entry (strict_of cells q) q) ≡ gather (15 * x) (λ q. entry (strict_of cells q) q)
-    column-skip x hx z =
-        ap (λ (n : ℕ). gather n (λ q. entry (strict_of cells q) q)) next
-        ∙ gather-skip (λ q. entry (strict_of cells q) q) (15 * x) 15 (λ i a b.
-        ap (λ (v : Verdict). entry v i) (sym (column-clear i (omega arith) (subst (λ (n : ℕ). bit columns n ≡ false) (same i a b) z))))
+    -- .. so the list of the points before p is that of the points before the next column
+    pub column-skip : (p : ℕ) → p < 225 → bit columns (p / 15) ≡ false
+        → gather (p - p % 15 + 15) (λ q. entry (strict_of cells q) q) ≡ gather p (λ q. entry (strict_of cells q) q)
+    column-skip p hp z =
+        ap (λ (x : ℕ). gather x (λ q. entry (strict_of cells q) q)) (next p)
+        ∙ gather-skip (λ q. entry (strict_of cells q) q) p (15 - p % 15) (λ i a b.
+        ap (λ (v : Verdict). entry v i) (sym (column-clear i (below i b) (subst (λ (x : ℕ). bit columns x ≡ false) (same i a b) z))))
       where
-        next : 15 * (x + 1) ≡ 15 * x + 15
+        next : (p : ℕ) → p - p % 15 + 15 ≡ p + (15 - p % 15)
+        next p = omega arith
+
+        below : (i : ℕ) → i < p + (15 - p % 15) → i < 225
+        below i h = omega arith
+
+        same : (i : ℕ) → p ≤ i → i < p + (15 - p % 15) → p / 15 ≡ i / 15
+        same i a b = omega arith
+
+    -- .. from the column's first point: the list of the points below column x is that of the points below the next
+    pub column-passed : (x : ℕ) → x < 15 → bit columns x ≡ false
+        → gather (15 * (x + 1)) (λ q. entry (strict_of cells q) q) ≡ gather (15 * x) (λ q. entry (strict_of cells q) q)
+    column-passed x hx z =
+        ap (λ (n : ℕ). gather n (λ q. entry (strict_of cells q) q)) next
+        ∙ column-skip (15 * x) (omega arith) (subst (λ (n : ℕ). bit columns n ≡ false) same z)
+      where
+        next : 15 * (x + 1) ≡ 15 * x - (15 * x) % 15 + 15
         next = omega arith
 
-        same : (i : ℕ) → 15 * x ≤ i → i < 15 * x + 15 → x ≡ x_of i
-        same i a b = omega arith
+        same : x ≡ (15 * x) / 15
+        same = omega arith
 
     -- no mark at all: nothing is forbidden
     pub columns-none : columns ≡ 0 → [] ≡ forbidden_list cells

@@ -1,18 +1,20 @@
 -- Section 5's questions as the code asks them. No public statement cites what is said here of masks or of lines.
-use Rattle.std.specs.Prelude.{◌≡◌, ◌&&◌, cond, List, ℕ, ◌<◌, T, get_or}
+use Rattle.std.specs.Prelude.{◌≡◌, true, ◌&&◌, cond, List, ℕ, ◌+◌, ◌-◌, ◌*◌, ◌%◌, ◌<◌, T, get_or}
 use Rattle.rules.specs.Tools.{any_below}
 use Rattle.rules.specs.Bit.{bit, mask_of}
-use Rattle.rules.specs.Point.{line_no}
-use Rattle.rules.specs.Grid.{stone_at, start_masks, starts_of, numbered, rows_through}
-use Rattle.rules.specs.Forbidden.{some_row, more_than_one, with_black, real_threes, real_double, first_kind, strict_of}
+use Rattle.rules.specs.Point.{line_no, step_of}
+use Rattle.rules.specs.Grid.{Starts, stone_at, start_masks, starts_of, numbered, rows_through}
+use Rattle.rules.specs.Forbidden.{some_row, more_than_one, with_black, real_threes, real_double, first_kind, gap_from, strict_of}
 use Rattle.rules.specs.declared.Player.{Player}
-use Rattle.rules.specs.declared.Player.TheVariants.{Black}
+use Rattle.rules.specs.declared.Player.TheVariants.{Black, White}
+use Rattle.rules.specs.declared.RowKind.{RowKind}
 use Rattle.rules.specs.declared.RowKind.TheVariants.{Two, Three}
 use Rattle.rules.specs.declared.Verdict.{Verdict}
 use Rattle.rules.specs.declared.Verdict.TheVariants.{None}
-use Rattle.point.specs.Places.{has_place}
+use Rattle.point.specs.Places.{has_place, place_of}
+use Rattle.near.specs.Rows.{seen}
 use Rattle.near.specs.declared.rows.Rows.{Rows}
-use Rattle.grid.specs.Lines.{cells_of, Sound}
+use Rattle.grid.specs.Lines.{cells_of, Sound, mask_on, masks_through}
 use Rattle.board.specs.Boards.{cells, board_refusal}
 use Rattle.board.specs.declared.board.Board.{Board}
 
@@ -24,6 +26,23 @@ plain_by l p r =
 
 unfoldable pub strict_by : List ℕ → ℕ → Rows → Verdict
 strict_by l p r = cond (some_row (starts_of r.fours)) None (plain_by l p r)
+
+-- ---- the same questions of any lines, sound or not, as their masks say
+
+-- Black's rows through p
+abbrev pub rows_by : List ℕ → ℕ → RowKind → Starts
+rows_by l p = seen true (masks_through l p Black) (masks_through l p White) p
+
+-- in bytes, of which 0 comes behind 255: so far back from p, and so far on
+unfoldable pub walk_by : ℕ → ℕ → ℕ → ℕ
+walk_by p back on = ((p + (256 - back % 256)) % 256 + on % 256) % 256
+
+-- from p back to its line's first cell, and on to the first gap in Black's stones from cell j on
+abbrev pub eye_by : List ℕ → ℕ → ℕ → ℕ → ℕ
+eye_by l p d j =
+    walk_by p ((place_of d p).cell * step_of d) (gap_from (bit (mask_on Black l (place_of d p).key)) j * step_of d)
+
+-- ----
 
 -- a stone may be tried at p on these lines, where these are the starts of the Twos
 pub record Triable (l : List ℕ) (p : ℕ) (twos : List ℕ) : Type 0 where

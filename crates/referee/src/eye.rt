@@ -5,6 +5,7 @@ ghost use Rattle.rules.specs.Forbidden.{eye_of};
 ghost use Rattle.rules.specs.declared.Player.TheVariants.{Black};
 ghost use Rattle.rules.specs.declared.RowKind.TheVariants.{Three};
 ghost use Rattle.grid.specs.Lines.{cells_of, Sound};
+ghost use Rattle.referee.specs.Referee.{eye_by, walk_by};
 
 use grid::mask_on;
 use near::first_gap;
@@ -14,10 +15,11 @@ use rules::{Below, Code, Player};
 // A Three through a point by its number: 16 times the direction, and the cell where it starts.
 pub type Three = Below<64>;
 
-// Of the Three through a point that has this number: the first gap in Black's stones from its start on. (Any lines may be asked; of those
-// that are not sound nothing is said.)
+// Of the Three through a point that has this number: the first gap in Black's stones from its start on. Of lines that are not sound, and where
+// there is no such Three, the byte to which the same walk leads.
 pub fn eye_on(lines: &[u16; 144], table: &Table, code: Code, three: Three) -> u8
-    ensures { Sound lines.now → T (rows_through Black Three (cells_of lines.now) code (three / 16) (three % 16))
+    ensures any { result ≡ eye_by lines.now code (three / 16) (three % 16) }
+    ensures sound { Sound lines.now → T (rows_through Black Three (cells_of lines.now) code (three / 16) (three % 16))
         → result ≡ eye_of (cells_of lines.now) code (three / 16) (three % 16) }
 {
     let p = code.get();
@@ -29,9 +31,9 @@ pub fn eye_on(lines: &[u16; 144], table: &Table, code: Code, three: Three) -> u8
 }
 
 // From a point back to its line's first cell, and on to another cell. The sums wrap, which on sound lines none does.
+#[tactic(auto, unfolding(crate::specs::Referee::walk_by))]
 fn walked(code: u8, cell: u8, step: u8, to: u8) -> u8
-    ensures { cell * step ≤ code → to * step ≤ 224 → code - cell * step + to * step < 225
-        → result ≡ code - cell * step + to * step }
+    ensures { result ≡ walk_by code (cell * step) (to * step) }
 {
     code.wrapping_sub(cell.wrapping_mul(step))
         .wrapping_add(to.wrapping_mul(step))

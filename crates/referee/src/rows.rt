@@ -3,6 +3,7 @@ ghost use Rattle.std.specs.Prelude.{◌≡◌, get_or};
 ghost use Rattle.rules.specs.Forbidden.{strict_of, plain_of, real_double, black_rows};
 ghost use Rattle.near.specs.Rows.{RowsAre};
 ghost use Rattle.grid.specs.Lines.{cells_of, Sound, write_on};
+ghost use Rattle.referee.specs.Referee.{rows_by};
 
 use super::cycle::{plain, two_real};
 use grid::{put_on, row_starts_by, stones_by};
@@ -10,9 +11,10 @@ use near::{Rows, black_rows_near};
 use point::Table;
 use rules::{Code, Player, RowKind, Verdict};
 
-// The four kinds that the verdict is told by.
+// The four kinds that the verdict is told by: of any lines as the masks through the point say, of sound ones those of their cells.
 pub fn rows_on(lines: &[u16; 144], table: &Table, code: Code) -> Rows
-    ensures { Sound lines.now → RowsAre (black_rows (cells_of lines.now) code) result }
+    ensures any { RowsAre (rows_by lines.now code) result }
+    ensures sound { Sound lines.now → RowsAre (black_rows (cells_of lines.now) code) result }
 {
     let p = code.get();
     let stones = stones_by(lines, table.numbers(), p, Player::Black);

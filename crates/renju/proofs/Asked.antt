@@ -10,13 +10,12 @@ use Rattle.std.specs.Prelude.{Result, Ok, Err}
 use Rattle.rules.specs.Refusals.{first}
 use Rattle.rules.specs.Answers.{answer, refusal_no, refusal_named}
 use Rattle.rules.specs.declared.refusal.Refusal.{Refusal}
-use Rattle.rules.proofs.Refusals.{answered}
 use Rattle.lent.specs.Lists.{list_refusal, list_out, counted}
 use Rattle.lent.proofs.Laws.{kept_out}
 use Rattle.board.specs.Answers.{board_answer}
 use Rattle.board.specs.Boards.{cells, board_of}
 use Rattle.board.specs.declared.board.Board.{Board}
-use Rattle.board.proofs.Given.{board-cells}
+use Rattle.board.proofs.Given.{made-refusal, made-refused, made-board, made_cells}
 use Rattle.renju.specs.Answers.{word, word_of, list_word, refusal_of}
 use Rattle.renju.proofs.Named.{cells_named, named_back}
 use Rattle.renju.proofs.Words.{word_given, list_given}
@@ -33,12 +32,7 @@ module _ (c : List ℕ) {m : Result Board Refusal} (e : m ≡ board_answer (cell
 
   module _ {x : Refusal} (is : m ≡ Err x) where
     told : (cells_refusal c ≡ 0 → ⊥) × (x ≡ refusal_named (cells_refusal c))
-    unfolding board_answer answer
-    told = go (eqb (cells_refusal c) 0) refl
-      where
-        go : (t : Bool) → eqb (cells_refusal c) 0 ≡ t → (cells_refusal c ≡ 0 → ⊥) × (x ≡ refusal_named (cells_refusal c))
-        go true q = let z : Err x ≡ Ok (board_of c) = sym is ∙ e ∙ rw q in cc
-        go false q = (eqb-false (cells_refusal c) 0 q, let z : Err x ≡ Err (refusal_named (cells_refusal c)) = sym is ∙ e ∙ rw q in cc)
+    told = made-refused (cells_refusal c) c e is
 
     number : refusal_no x ≡ cells_refusal c
     number = ap refusal_no told.1 ∙ named_back (cells_refusal c) told.0 (cells_named c)
@@ -47,6 +41,9 @@ module _ (c : List ℕ) {m : Result Board Refusal} (e : m ≡ board_answer (cell
       nine : refusal_of c question ≡ cells_refusal c
       unfolding refusal_of
       nine = first-given refl told.0 _
+
+      pub refused-asked : refusal_of c question ≡ refusal_no x
+      refused-asked = nine ∙ sym number
 
       pub refused_word : {r : ℕ} (n : ℕ) → r ≡ refusal_no x * 65536 → r ≡ word (refusal_of c question) n
       unfolding word
@@ -62,17 +59,16 @@ module _ (c : List ℕ) {m : Result Board Refusal} (e : m ≡ board_answer (cell
   -- ---- cell bytes that are a board's
 
   module _ {b : Board} (is : m ≡ Ok b) where
-    given : (cells_refusal c ≡ 0) × (b ≡ board_of c)
-    unfolding board_answer
-    given = answered (cells_refusal c) (board_of c) e is
+    none : cells_refusal c ≡ 0
+    none = made-refusal (cells_refusal c) c e is
 
-    same-cells : cells b ≡ c
-    same-cells = ap cells given.1 ∙ board-cells c (cells_in c given.0)
+    pub same-cells : cells b ≡ c
+    same-cells = made_cells (cells_refusal c) c e is (cells_in c)
 
     module _ (question : Board → ℕ) where
-      asked : question b ≡ refusal_of c question
+      pub asked : question b ≡ refusal_of c question
       unfolding refusal_of first
-      asked = ap question given.1 ∙ rw (eq-eqb (cells_refusal c) 0 given.0)
+      asked = ap question (made-board (cells_refusal c) c e is) ∙ rw (eq-eqb (cells_refusal c) 0 none)
 
       pub asked_word : {A : Type 0} (low : A → ℕ) (f : List ℕ → A) {a : Result A Refusal} {r : ℕ} → question b ≤ 22
           → a ≡ answer (question b) (f (cells b)) → r ≡ word_of low a → r ≡ word (refusal_of c question) (low (f c))

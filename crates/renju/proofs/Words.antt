@@ -1,16 +1,20 @@
 -- The number of an answer is that of its refusal and its value; lists refused and handed out. Assumes nothing.
 use mathlib.Core.Path.{◌≡◌, refl, ap, sym, ◌∙◌}
-use mathlib.Core.Bool.{Bool, true, false}
+use mathlib.Core.Bool.{Bool, true, false, cond}
 use mathlib.Core.List.{List}
-use Prim.Native.Nat.{ℕ, ◌*◌, ◌/◌, ◌≤◌}
+use Prim.Native.Nat.{ℕ, ◌+◌, ◌*◌, ◌/◌, ◌≤◌}
 use lib.Dec.{eqb}
 use lib.ListN.{length}
-use borrow.Author.Tests.{eqb-false}
+use borrow.Author.Tests.{eqb-true, eqb-false}
 use Rattle.std.specs.Prelude.{Result, Ok, Err}
 use Rattle.rules.specs.Answers.{answer, refusal_named}
 use Rattle.rules.specs.declared.refusal.Refusal.{Refusal}
 use Rattle.rules.proofs.Refusals.{answered}
 use Rattle.lent.specs.Lists.{list_refusal, list_out, counted}
+use Rattle.rules.specs.Numbers.{verdict_no}
+use Rattle.rules.specs.declared.Verdict.{Verdict}
+use Rattle.depth.specs.Answers.{depth_answer}
+use Rattle.depth.specs.declared.front.DepthAnswer.{DepthAnswer}
 use Rattle.renju.specs.Answers.{word, word_of, list_word}
 use Rattle.renju.proofs.Named.{named_back, list_named}
 
@@ -23,6 +27,22 @@ word_given low n v {a} {r} h e k = k ∙ ap (word_of low) e ∙ go (eqb n 0) ref
     go : (t : Bool) → eqb n 0 ≡ t → word_of low (answer n v) ≡ word n (low v)
     go true q = rw q
     go false q = rw q (ap (λ (x : ℕ). x * 65536) (named_back n (eqb-false n 0 q) h))
+
+-- whatever it is that has a number: of two such the one that a refusal chooses
+pub word-of : {A : Type 0} (w : A → ℕ) (a b : A) (refused n : ℕ) → w a ≡ word 0 n → w b ≡ word refused 0
+    → w (cond (eqb refused 0) a b) ≡ word refused n
+unfolding word
+word-of w a b refused n p q = go (eqb refused 0) refl
+  where
+    go : (t : Bool) → eqb refused 0 ≡ t → w (cond t a b) ≡ cond t n (refused * 65536)
+    go true e = p
+    go false e = q ∙ rw e
+
+-- a depth with a verdict
+pub depth-word : (refused n : ℕ) (v : Verdict) → refused ≤ 22
+    → word_of (λ (d : DepthAnswer). 256 * d.depth + verdict_no d.verdict) (depth_answer refused n v) ≡ word refused (256 * n + verdict_no v)
+depth-word refused n v h =
+    word_given (λ (d : DepthAnswer). 256 * d.depth + verdict_no d.verdict) refused (record { depth = n; verdict = v }) h refl refl
 
 -- a list that was handed out, with its count
 pub list_given : (size told : ℕ) (out l : List ℕ) {a : Result ℕ Refusal} {r : ℕ} {out' : List ℕ} → told ≤ 22

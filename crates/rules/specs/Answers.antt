@@ -66,7 +66,7 @@ abbrev pub checked : ℕ → Result Unit Refusal
 checked refused = answer refused tt
 
 -- passed, or this refusal
-abbrev pub refused_by : Bool → Refusal → Result Unit Refusal
+abbrev pub refused_by : {R : Type 0} → Bool → R → Result Unit R
 refused_by passed r = cond passed (Ok tt) (Err r)
 
 -- whose stone stands on a cell

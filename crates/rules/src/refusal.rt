@@ -44,8 +44,8 @@ impl fmt::Display for Refusal {
 
 impl Error for Refusal {}
 
-// The refusal, unless the test passed.
-pub fn unless(passed: bool, refusal: Refusal) -> Result<(), Refusal>
+// The refusal, unless the test passed. A number may stand for it as well.
+pub fn unless<R: Copy>(passed: bool, refusal: R) -> Result<(), R>
     ensures { result ≡ refused_by passed refusal }
 {
     if passed { Ok(()) } else { Err(refusal) }

@@ -39,7 +39,7 @@ fn convert<R: Input + Print + Eprint>(rt: &R, back: bool) {
     };
     match written {
         Ok(len) => write_line(rt, head(&out, len)),
-        Err(refusal) => refuse(rt, refusal),
+        Err(refusal) => refuse(rt, refusal as u8),
     }
 }
 

@@ -7,7 +7,7 @@ ghost use Rattle.stored.specs.Records.{record_of, stored_view, stored_moves, rec
 
 use super::record::{record_of, stored_moves, stored_view};
 use super::refusal::{back_refusal, record_refusal, tagged_refusal};
-use lent::hand_out;
+use lent::{Kept, hand_out};
 use rules::Refusal;
 
 // The record of moves in a view, and how many bytes it has. Refusals ManyMoves, NoPoint, NoNumber, NoRoom.
@@ -37,8 +37,10 @@ pub fn from_tagged(bytes: &[u8], out: &mut [u8]) -> Result<u16, Refusal>
         × (out.new ≡ list_out (back_refusal bytes.now) out.old (stored_moves bytes.now)) }
 {
     back_refusal(bytes)?;
-    let moves = stored_moves(bytes);
-    hand_out(moves, moves.len() as u16, out)
+    // kept first: a copy from lent bytes to lent bytes has LLVM ask for `memmove`, which the archive would need for this alone
+    let mut moves = Kept::<225>::new();
+    moves.keep(stored_moves(bytes));
+    hand_out(moves.as_slice(), moves.len() as u16, out)
 }
 
 // The view of a record. Refusals Malformed, ManyMoves, NoPoint.

@@ -1,17 +1,17 @@
 -- Marks: what they say of each point, masks that say something of a row's points, and marks written mask by mask, and code by code.
 -- Assumes nothing.
 use mathlib.Core.Path.{◌≡◌, refl, sym, ap, ap₂, ◌∙◌, subst}
-use mathlib.Core.Bool.{Bool, true, false, not, ◌&&◌, ◌||◌, cond, and-false, or-false}
+use mathlib.Core.Bool.{Bool, true, false, not, ◌&&◌, ◌||◌, cond, and-true, and-false, or-false}
 use mathlib.Core.Logic.{◌⊎◌, inl, inr}
 use mathlib.Core.List.{List}
 use Prim.Native.Nat.{ℕ, ◌+◌, ◌-◌, ◌^◌, ◌≤◌, ◌<◌}
 use native.Mathlib.Omega.{arith}
 use native.Mathlib.Decide.{ℕ_discrete}
-use lib.Dec.{T, eqb, eqb→eq, leb, ltb, leb→le, le→leb, ltb→lt, lt→ltb}
+use lib.Dec.{T, eqb, eqb→eq, lit<, leb, ltb, leb→le, le→leb, ltb→lt, lt→ltb}
 use lib.ListN.{length, get_or, set, length-set}
 use lib.Seq.{get_or-set_same, get_or-set_other}
 use lib.Bits.{bit_and, bit_or, and_lt}
-use borrow.Author.Tests.{lt-ltb, le-ltb, ltb-true, ltb-false, eq-eqb, ne_eqb}
+use borrow.Author.Tests.{le-leb, lt-ltb, le-ltb, ltb-true, ltb-false, eq-eqb, ne_eqb}
 use Rattle.rules.specs.Tools.{any_below}
 use Rattle.rules.specs.Bit.{bit, mask_of}
 use Rattle.rules.specs.Point.{x_of, y_of, code_of}
@@ -19,11 +19,11 @@ use Rattle.rules.proofs.Logic.{decide, both_ways, true-T, not-false, false-not, 
 use Rattle.rules.proofs.Logic.{T_true, any-intro, along, and-flip, and_same}
 use Rattle.masks.proofs.Windows.{and-on, and-off}
 use Rattle.rules.proofs.Address.{x-of-code, y-of-code, code-of-xy}
-use Rattle.rules.proofs.Bits.{bit-and, bit-or, bit_not, bit_mask, bits_of, mask-ext, mask-cong, mask_lt, mask-none, mask-or}
+use Rattle.rules.proofs.Bits.{bit-and, bit-or, bit_not, bit-ones, bit_mask, bits_of, mask-ext, mask-cong, mask_lt, mask-none, mask-or}
 use Rattle.rules.proofs.Lists.{length-tab, get_d-tab, is-tab, tab-cong}
 use Rattle.lent.specs.Lists.{zeros}
 use Rattle.lent.proofs.Laws.{length-zeros, zeros-at}
-use Rattle.sweep.specs.Marks.{on_board, row_mask, marks, is_marked, Marked, codes_below, Says}
+use Rattle.sweep.specs.Marks.{on_board, row_mask, marks, is_marked, Marked, every_point, codes_below, Says}
 use Rattle.cells.proofs.Filled.{filled, filled_none, filled-skip, filled_more}
 
 -- ---- the points of the board
@@ -191,6 +191,13 @@ rows_end f i g h e =
     last : (c : ℕ) (b : Bool) → ltb c i ≡ b → cond b (row_mask f c) 0 ≡ row_mask f c
     last c true e = refl
     last c false e = sym (row-none f c (λ x. off-high c x (omega (arith, ltb-false c i e))))
+
+-- a whole row of the board
+pub full-row : (i : ℕ) → 5 ≤ i → i < 20 → 32767 ≡ row_mask every_point i
+unfolding every_point on_board row_mask
+full-row i l h =
+    mask-ext 16 32767 _ (lit< tt)
+    (λ x k. bit-ones 15 x ∙ sym (rw (le-leb 5 i l, lt-ltb i 20 h) (and-true (ltb x 15))))
 
 -- ---- marks written code by code
 

@@ -46,7 +46,7 @@ fn convert<R: Input + Print + Eprint>(rt: &R, back: bool) {
                 "tagged: standard output cannot be written\n",
             );
         }
-        Err(refusal) => refuse(rt, refusal),
+        Err(refusal) => refuse(rt, refusal as u8),
     }
 }
 

@@ -177,3 +177,19 @@ parts_cut d (b ∷ s) h = go (eqb b d) (parts_cut d s) h
         ≡ take (cond t 0 (suc (find_at d s))) (b ∷ s) ∷ parts d (drop (suc (cond t 0 (suc (find_at d s)))) (b ∷ s))
     go true r h = refl
     go false r h = rw (r (le_of_suc-le-suc h))
+
+-- ---- what stands before and behind the first d, as a place of it tells
+part-before : (d n : ℕ) (s part : List ℕ) → n ≡ find_at d s → part ≡ take n s → part ≡ before d s
+part-before d n s part e p = p ∙ ap (λ (k : ℕ). take k s) e ∙ sym (before-take d s)
+
+part-behind : (d n : ℕ) (s from rest : List ℕ) → n ≡ find_at d s → from ≡ drop n s → rest ≡ drop 1 from → rest ≡ behind d s
+part-behind d n s from rest e p q =
+    let z : find_at d s + 1 ≡ suc (find_at d s) = omega arith in
+    q ∙ ap (drop 1) (p ∙ ap (λ (k : ℕ). drop k s) e) ∙ drop-drop 1 (find_at d s) s ∙ ap (λ (k : ℕ). drop k s) z ∙ sym (behind-drop d s)
+
+-- what stands before the first d, and before the next one; and what stands behind the first
+pub two-lists : (d n m : ℕ) (s part from rest other : List ℕ) → n ≡ find_at d s → part ≡ take n s → from ≡ drop n s → rest ≡ drop 1 from
+    → m ≡ find_at d rest → other ≡ take m rest → (part ≡ before d s) × (other ≡ before d (behind d s)) × (rest ≡ behind d s)
+two-lists d n m s part from rest other en ep ef er em eo =
+    let e = part-behind d n s from rest en ef er in
+    (part-before d n s part en ep, part-before d m rest other em eo ∙ ap (before d) e, e)

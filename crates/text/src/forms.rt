@@ -7,6 +7,7 @@ ghost use Rattle.text.specs.Reading.{stones_text_refusal, stones_in, moves_in, r
 use super::bytes::{has, parted, text_refusal, trimmed};
 use super::points::codes_in;
 use cells::{moves_cells, stones_cells};
+use lent::Kept;
 use rules::{Refusal, unless};
 
 // With a slash stones, else moves: a lone point is one move, Black's. No diagram is read here.
@@ -31,8 +32,10 @@ fn stones_in(t: &[u8]) -> Result<[u8; 225], Refusal>
 {
     let (black, behind) = parted(t, b'/');
     let (white, third) = parted(behind.unwrap_or(&[]), b'/');
-    let blacks = codes_in(black)?;
-    let whites = codes_in(white)?;
+    let mut blacks = Kept::new();
+    codes_in(black, &mut blacks)?;
+    let mut whites = Kept::new();
+    codes_in(white, &mut whites)?;
     unless(third.is_none(), Refusal::NoColumn)?;
     stones_cells(blacks.as_slice(), whites.as_slice())
 }
@@ -43,6 +46,7 @@ fn moves_in(t: &[u8]) -> Result<[u8; 225], Refusal>
     requires { length t.now ≤ 4096 }
     ensures { result ≡ answer (points_refusal t.now) (moves_in t.now) }
 {
-    let moves = codes_in(t)?;
+    let mut moves = Kept::new();
+    codes_in(t, &mut moves)?;
     moves_cells(moves.as_slice())
 }

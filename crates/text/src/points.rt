@@ -1,7 +1,7 @@
 // A comma list of points.
-ghost use Rattle.std.specs.Prelude.{◌≡◌, ◌≤◌, length};
+ghost use Rattle.std.specs.Prelude.{◌≡◌, [], ◌≤◌, length};
 ghost use Rattle.std.specs.Result.{IfOk};
-ghost use Rattle.rules.specs.Answers.{answer};
+ghost use Rattle.rules.specs.Answers.{answer, checked};
 ghost use Rattle.lent.specs.Lists.{list_out, counted};
 ghost use Rattle.cells.specs.Cells.{codes_refusal};
 ghost use Rattle.text.specs.Points.{points_in, points_refusal, list_text_refusal, list_found};
@@ -13,7 +13,7 @@ use lent::{Kept, hand_out};
 use rules::Refusal;
 
 // The codes of a list's points: up to the first item that is refused, where there is one. A text of 4,096 bytes has at most one item more.
-#[derive(Drop)]
+#[derive(Clone, Copy)]
 pub struct Leading {
     pub codes: Kept<4097>,
     pub slip: Option<Slip>,
@@ -33,7 +33,8 @@ pub fn read_points(text: &[u8], out: &mut [u8]) -> Result<u16, Refusal>
         × (out.new ≡ list_out (list_text_refusal text.now) out.old (points_in text.now)) }
 {
     text_refusal(text)?;
-    let codes = codes_in(text)?;
+    let mut codes = Kept::new();
+    codes_in(text, &mut codes)?;
     hand_out(codes.as_slice(), codes.len() as u16, out)
 }
 
@@ -43,27 +44,29 @@ pub fn read_leading(text: &[u8]) -> Result<Leading, Refusal>
     ensures { result ≡ answer (text_refusal text.now) (list_found text.now) }
 {
     text_refusal(text)?;
-    Ok(leading_in(text))
+    let mut codes = Kept::new();
+    let slip = leading_into(text, &mut codes);
+    Ok(Leading { codes, slip })
 }
 
-// The codes of all of them, or why the first that is refused is.
-pub(crate) fn codes_in(s: &[u8]) -> Result<Kept<4097>, Refusal>
-    requires { length s.now ≤ 4096 }
-    ensures value { result ≡ answer (points_refusal s.now) (points_in s.now) }
-    ensures good { IfOk result (λ codes. codes_refusal codes ≡ 0) }
+// The codes of all of them, kept in `codes`, or why the first that is refused is.
+pub(crate) fn codes_in(s: &[u8], codes: &mut Kept<4097>) -> Result<(), Refusal>
+    requires { (length s.now ≤ 4096) × (codes.old ≡ []) }
+    ensures value { result ≡ checked (points_refusal s.now) }
+    ensures all { IfOk result (λ _. codes.new ≡ points_in s.now) }
+    ensures good { IfOk result (λ _. codes_refusal codes.new ≡ 0) }
 {
-    let found = leading_in(s);
-    match found.slip {
-        None => Ok(found.codes),
+    match leading_into(s, codes) {
+        None => Ok(()),
         Some(slip) => Err(slip.refusal),
     }
 }
 
-fn leading_in(s: &[u8]) -> Leading
-    requires { length s.now ≤ 4096 }
-    ensures { result ≡ list_found s.now }
+// The codes of those before the first that is refused, kept in `codes`, and that one, where there is one.
+fn leading_into(s: &[u8], codes: &mut Kept<4097>) -> Option<Slip>
+    requires { (length s.now ≤ 4096) × (codes.old ≡ []) }
+    ensures { (codes.new ≡ (list_found s.now).codes) × (result ≡ (list_found s.now).slip) }
 {
-    let mut codes = Kept::new();
     let mut rest = Some(trimmed(s));
     'items: while let Some(items) = rest {
         let (item, others) = parted(items, b',');
@@ -71,13 +74,10 @@ fn leading_in(s: &[u8]) -> Leading
             Ok(code) => codes.keep(&[code]),
             Err(refusal) => {
                 let item = codes.len() + 1;
-                return Leading {
-                    codes,
-                    slip: Some(Slip { item, refusal }),
-                };
+                return Some(Slip { item, refusal });
             }
         }
         rest = others;
     }
-    Leading { codes, slip: None }
+    None
 }

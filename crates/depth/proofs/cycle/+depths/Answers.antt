@@ -117,13 +117,13 @@ eye_depth-unwrap-eye-requires t c =
     let hp : c.args.code < 225 = omega arith in
     let hd : c.args.three / 16 < 4 = omega arith in
     can-make 225 _ c.new.ensures
-    (eye-small c.args.lines.now c.args.code (c.args.three / 16) (c.args.three % 16) q.0 hp hd q.1 (c.eye_on.ensures q.0 q.1))
+    (eye-small c.args.lines.now c.args.code (c.args.three / 16) (c.args.three % 16) q.0 hp hd q.1 (c.eye_on.ensures.sound q.0 q.1))
 
 pub eye_depth-returns-then-some_row : goal.eye_depth-returns-then-some_row
 eye_depth-returns-then-some_row t c =
     let q = c.requires in
-    let at = made 225 _ c.new.ensures c.unwrap-eye.ensures ∙ c.eye_on.ensures q.0 q.1 in
-    (five-counts (cells_of c.args.lines.now) _ (c.rows_on-rows.ensures q.0) at c.some_row.ensures c.if-some_row.true, refl)
+    let at = made 225 _ c.new.ensures c.unwrap-eye.ensures ∙ c.eye_on.ensures.sound q.0 q.1 in
+    (five-counts (cells_of c.args.lines.now) _ (c.rows_on-rows.ensures.sound q.0) at c.some_row.ensures c.if-some_row.true, refl)
 
 pub eye_depth-depth_by-requires : goal.eye_depth-depth_by-requires
 eye_depth-depth_by-requires t c =
@@ -132,16 +132,16 @@ eye_depth-depth_by-requires t c =
     let q = c.requires in
     let hp : c.args.code < 225 = omega arith in
     let hd : c.args.three / 16 < 4 = omega arith in
-    let at = made 225 _ c.new.ensures c.unwrap-eye.ensures ∙ c.eye_on.ensures q.0 q.1 in (
+    let at = made 225 _ c.new.ensures c.unwrap-eye.ensures ∙ c.eye_on.ensures.sound q.0 q.1 in (
       omega arith,
-      (q.0, eye-empty L c.args.code (c.args.three / 16) (c.args.three % 16) q.0 hp hd q.1 at, c.rows_on-rows.ensures q.0),
+      (q.0, eye-empty L c.args.code (c.args.three / 16) (c.args.three % 16) q.0 hp hd q.1 at, c.rows_on-rows.ensures.sound q.0),
     )
 
 pub eye_depth-returns : goal.eye_depth-returns
 eye_depth-returns t c =
     let q = c.requires in
-    let at = made 225 _ c.new.ensures c.unwrap-eye.ensures ∙ c.eye_on.ensures q.0 q.1 in (
-      deep-counts (cells_of c.args.lines.now) _ (c.rows_on-rows.ensures q.0) at c.some_row.ensures c.if-some_row.false
+    let at = made 225 _ c.new.ensures c.unwrap-eye.ensures ∙ c.eye_on.ensures.sound q.0 q.1 in (
+      deep-counts (cells_of c.args.lines.now) _ (c.rows_on-rows.ensures.sound q.0) at c.some_row.ensures c.if-some_row.false
           c.depth_by.ensures.0,
       c.depth_by.ensures.1,
     )

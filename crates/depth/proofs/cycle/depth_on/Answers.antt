@@ -25,4 +25,4 @@ depth_by-requires c =
     let p = c.args.code in
     let hp : p < 225 = omega arith in
     let free = sym (cell-is L p hp (rw c.get.ensures.value at c.cell_on.ensures)) ∙ c.if-cell_on-ne0.false in
-    (c.requires, free, c.rows_on-rows.ensures c.requires)
+    (c.requires, free, c.rows_on-rows.ensures.sound c.requires)

@@ -25,7 +25,7 @@ is_real-unwrap-eye-requires t c =
     let hp : c.args.code < 225 = omega arith in
     let hd : c.args.three / 16 < 4 = omega arith in
     can-make 225 _ c.new.ensures
-    (eye-small c.args.lines.now c.args.code (c.args.three / 16) (c.args.three % 16) q.0 hp hd q.1 (c.eye_on.ensures q.0 q.1))
+    (eye-small c.args.lines.now c.args.code (c.args.three / 16) (c.args.three % 16) q.0 hp hd q.1 (c.eye_on.ensures.sound q.0 q.1))
 
 pub is_real-strict_by-requires : goal.is_real-strict_by-requires
 is_real-strict_by-requires t c =
@@ -36,9 +36,9 @@ is_real-strict_by-requires t c =
     let j = c.args.three % 16 in
     let hp : c.args.code < 225 = omega arith in
     let hd : d < 4 = omega arith in
-    let at = made 225 _ c.new.ensures c.unwrap-eye.ensures ∙ c.eye_on.ensures q.0 q.1 in (
+    let at = made 225 _ c.new.ensures c.unwrap-eye.ensures ∙ c.eye_on.ensures.sound q.0 q.1 in (
       omega arith,
-      λ u. triable (cells_of L) _ (c.rows_on-rows.ensures q.0) L q.0 refl (eye-empty L c.args.code d j q.0 hp hd q.1 at),
+      λ u. triable (cells_of L) _ (c.rows_on-rows.ensures.sound q.0) L q.0 refl (eye-empty L c.args.code d j q.0 hp hd q.1 at),
     )
 
 pub is_real-returns-else-not-some_row : goal.is_real-returns-else-not-some_row
@@ -46,9 +46,9 @@ is_real-returns-else-not-some_row t c =
     let q = c.requires in
     let hp : c.args.code < 225 = omega arith in
     let hd : c.args.three / 16 < 4 = omega arith in
-    let at = made 225 _ c.new.ensures c.unwrap-eye.ensures ∙ c.eye_on.ensures q.0 q.1 in (
+    let at = made 225 _ c.new.ensures c.unwrap-eye.ensures ∙ c.eye_on.ensures.sound q.0 q.1 in (
       ap not c.if-not-some_row.false ∙ five-seen c.args.lines.now c.args.code (c.args.three / 16) (c.args.three % 16) q.0 hp hd q.1
-          at (c.rows_on-rows.ensures q.0) c.some_row.ensures c.if-not-some_row.false,
+          at (c.rows_on-rows.ensures.sound q.0) c.some_row.ensures c.if-not-some_row.false,
       refl,
     )
 
@@ -57,9 +57,9 @@ is_real-returns-then-not-some_row t c =
     let q = c.requires in
     let hp : c.args.code < 225 = omega arith in
     let hd : c.args.three / 16 < 4 = omega arith in
-    let at = made 225 _ c.new.ensures c.unwrap-eye.ensures ∙ c.eye_on.ensures q.0 q.1 in (
+    let at = made 225 _ c.new.ensures c.unwrap-eye.ensures ∙ c.eye_on.ensures.sound q.0 q.1 in (
       c.is_none.ensures ∙ real-seen c.args.lines.now c.args.code (c.args.three / 16) (c.args.three % 16) q.0 hp hd q.1
-          at (c.rows_on-rows.ensures q.0) c.some_row.ensures c.if-not-some_row.true c.strict_by.ensures.0,
+          at (c.rows_on-rows.ensures.sound q.0) c.some_row.ensures c.if-not-some_row.true c.strict_by.ensures.0,
       c.strict_by.ensures.1,
     )
 

@@ -21,7 +21,7 @@ strict_by-requires c =
     let hp : p < 225 = omega arith in
     let s = c.requires in
     let free = sym (cell-is L p hp (rw c.get.ensures.value at c.cell_on.ensures)) ∙ c.if-cell_on-ne0.false in
-    λ t. triable (cells_of L) p (c.rows_on-rows.ensures s) L s refl free
+    λ t. triable (cells_of L) p (c.rows_on-rows.ensures.sound s) L s refl free
 
 pub returns : goal.returns
 returns c =
@@ -30,6 +30,6 @@ returns c =
     let hp : p < 225 = omega arith in
     let free = free-is L p hp (rw c.get.ensures.value at c.cell_on.ensures) ∙ eq-eqb _ 0 c.if-cell_on-ne0.false in (
       c.strict_by.ensures.0
-          ∙ strict-is (cells_of L) p (c.rows_on-rows.ensures c.requires) L (length-cells_of L) hp free (λ t. refl),
+          ∙ strict-is (cells_of L) p (c.rows_on-rows.ensures.sound c.requires) L (length-cells_of L) hp free (λ t. refl),
       c.strict_by.ensures.1,
     )

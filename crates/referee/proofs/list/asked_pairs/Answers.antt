@@ -9,7 +9,7 @@ use Rattle.rules.specs.Forbidden.{strict_of, entry, forbidden_list}
 use Rattle.rules.proofs.Listed.{pairs-short}
 use Rattle.lent.proofs.Laws.{gather_none, gather_kept, gather_passed}
 use Rattle.referee.proofs.Bounded.{made}
-use Rattle.referee.proofs.Swept.{column-skip, kind-entry, none-entry}
+use Rattle.referee.proofs.Swept.{column-passed, kind-entry, none-entry}
 use Rattle.referee.proofs.list.asked_pairs.Goals.{then-not-is_none, else-not-is_none, then-bit_at+else-loop-y-test, else-bit_at}
 use Rattle.referee.proofs.list.asked_pairs.Goals as goal
 
@@ -49,7 +49,7 @@ loop-x-preserved c =
         | then-bit_at+else-loop-y-test w ↦ w.found-is ∙ w.loop-y.invariant.1
             ∙ ap (λ (n : ℕ). gather n f) (let e : 15 * x + w.loop-y.y ≡ 15 * (x + 1) = omega arith in e)
         | else-bit_at w ↦ w.found-is ∙ c.loop-x.invariant.1
-            ∙ sym (column-skip c.args.cells.now c.requires.0.long c.requires.2 c.requires.3 x c.loop-x-test.true
+            ∙ sym (column-passed c.args.cells.now c.requires.0.long c.requires.2 c.requires.3 x c.loop-x-test.true
             (sym c.bit_at.ensures ∙ w.if-bit_at.false))
       ],
     )
