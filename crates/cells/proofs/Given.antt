@@ -8,7 +8,7 @@ use native.Mathlib.Nat.{not-suc-le-zero, le_of_suc-le-suc}
 use native.Mathlib.Numerals.{add-one}
 use native.Mathlib.Omega.{arith}
 use native.Mathlib.Decide.{ℕ_discrete}
-use lib.Dec.{T, eqb, leb, ltb, leb→le, le→leb, ltb→lt}
+use lib.Dec.{T, eqb, leb, ltb, leb→le, le→leb, ltb→lt, leb-suc-suc}
 use lib.ListN.{length, get_or, set, drop, length-set, get_or-eq_default}
 use lib.Seq.{get_or-set_same, get_or-set_other, drop-cons}
 use borrow.Author.Tests.{eq-eqb, eqb-true, ltb-true, ltb-false}
@@ -22,7 +22,7 @@ use Rattle.rules.specs.Grid.{is_empty, Change, put_at, remove_at, play, put, rem
 use Rattle.rules.specs.Views.{turn, undo, turn_cells}
 use Rattle.rules.specs.declared.Player.{Player}
 use Rattle.rules.specs.declared.Player.TheVariants.{Black, White}
-use Rattle.rules.proofs.Logic.{T_true, true-T, decide, and_left, and_right, and_intro, all-elim, all-intro, all-fails, or_cases}
+use Rattle.rules.proofs.Logic.{T_true, true-T, decide, and_left, and_right, and_intro, all-elim, all-intro, all-cong, all-fails, or_cases}
 use Rattle.rules.proofs.Refusals.{first-none, passed, pass}
 use Rattle.rules.proofs.Lists.{length-tab, get_d-tab}
 use Rattle.lent.specs.Lists.{zeros}
@@ -66,6 +66,12 @@ first_refused codes i {r} {x} h e k = go (decide (ltb (get_or codes i 0) 225))
     go : (ltb (get_or codes i 0) 225 ≡ true) ⊎ (ltb (get_or codes i 0) 225 ≡ false) → r ≡ checked (codes_refusal codes)
     go (inl t) = let z : Ok tt ≡ Err x = rw t at (sym e ∙ k) in cc
     go (inr t) = e ∙ rw (t, all-fails (length codes) (λ n. ltb (get_or codes n 0) 225) i h t)
+
+-- what is below 225 is at most 224
+pub codes_small : (codes : List ℕ)
+    → all_below (length codes) (λ i. ltb (get_or codes i 0) 225) ≡ all_below (length codes) (λ p. leb (get_or codes p 0) 224)
+codes_small codes =
+    all-cong (length codes) (λ i. ltb (get_or codes i 0) 225) (λ p. leb (get_or codes p 0) 224) (λ i l. leb-suc-suc (get_or codes i 0) 224)
 
 pub cells-for-in : (cells : List ℕ) (p colour : ℕ) → cells_refusal_for cells p colour ≡ 0
     → Cells cells × (p < 225) × (colour_refusal colour ≡ 0)

@@ -13,19 +13,19 @@ use rules::{Refusal, colour_refusal, unless};
 pub fn cells_refusal(cells: &[u8]) -> Result<(), Refusal>
     ensures { result ≡ checked (cells_refusal cells.now) }
 {
-    unless(cells.len() == 225 && all_small(cells), Refusal::Unsound)
+    unless(cells.len() == 225 && all_small(cells, 2), Refusal::Unsound)
 }
 
-// Whether 225 cell bytes are all 0, 1 or 2: whether the greatest is. No byte ends the loop, so that many are compared at once.
-fn all_small(cells: &[u8]) -> bool
-    requires { length cells.now ≡ 225 }
-    ensures { result ≡ all_below 225 (λ p. leb (get_or cells.now p 0) 2) }
+// Whether no byte is above a limit: whether the greatest is not. No byte ends the loop, so that many are compared at once; of a long list
+// all would be read, so it is asked of 225 bytes at most.
+fn all_small(bytes: &[u8], limit: u8) -> bool
+    ensures { result ≡ all_below (length bytes.now) (λ p. leb (get_or bytes.now p 0) limit) }
 {
     let mut most = 0u8;
-    for i in 0..225 {
-        most = most.max(cells[i]);
+    for &byte in bytes {
+        most = most.max(byte);
     }
-    most <= 2
+    most <= limit
 }
 
 // Whether a list of codes names points only: NoPoint where one does not.
@@ -39,13 +39,14 @@ pub fn codes_refusal(codes: &[u8]) -> Result<(), Refusal>
     Ok(())
 }
 
-// What is refused of the moves of a game: ManyMoves for more than 225 of them, then NoPoint.
-#[tactic(auto, unfolding(rules::specs::Answers::answer, rules::specs::Refusals::first, rules::specs::Refusals::unless, crate::specs::Cells::moves_refusal))]
+// What is refused of the moves of a game: ManyMoves for more than 225 of them, then NoPoint, as `codes_refusal` says, which tests one code
+// after the other: so few are compared at once.
+#[tactic(auto, using(crate::proofs::Given::codes_small), unfolding(rules::specs::Answers::answer, rules::specs::Refusals::first, rules::specs::Refusals::unless, crate::specs::Cells::moves_refusal, crate::specs::Cells::codes_refusal))]
 pub fn moves_refusal(moves: &[u8]) -> Result<(), Refusal>
     ensures { result ≡ checked (moves_refusal moves.now) }
 {
     unless(moves.len() <= 225, Refusal::ManyMoves)?;
-    codes_refusal(moves)
+    unless(all_small(moves, 224), Refusal::NoPoint)
 }
 
 // Unsound, then NoPoint for a code over 224.

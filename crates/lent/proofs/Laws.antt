@@ -8,8 +8,9 @@ use Prim.Native.Nat.{ℕ, zero, suc, ◌+◌, ◌-◌, ◌*◌, ◌≤◌, ◌<�
 use native.Mathlib.Nat.{add-zero}
 use native.Mathlib.Numerals.{add-one, unary_clauses}
 use native.Mathlib.Omega.{arith}
-use lib.ListN.{length, get_or, take, set, length-append, length-replicate}
-use lib.Seq.{take_at, take-suc, length-take-le, sets}
+use lib.ListN.{length, get_or, take, set, length-append, length-replicate, drop_of_length-le}
+use lib.Seq.{take_at, take-suc, take-length, length-take-le, sets}
+use Rattle.std.proofs.lemmas.List.Edits.{sets-eq}
 use borrow.Author.Tests.{le-leb, ne_eqb}
 use Rattle.std.specs.Prelude.{Result}
 use Rattle.rules.specs.Refusals.{first}
@@ -70,6 +71,14 @@ sets_more old from at i h =
     ∙ sets-append old at l (get_or from i 0 ∷ [])
     ∙ ap (sets old at) (sym (ap (λ (k : ℕ). take k from) (add-one i) ∙ take-suc from i 0 h))
 
+-- .. at its end, where the buffer is as long as what is stored
+pub sets_whole : (old from : List ℕ) → length old ≡ length from → sets old 0 (take (length from) from) ≡ from
+sets_whole old from h =
+    ap (sets old 0) (take-length from)
+    ∙ sets-eq from old 0 (omega (arith, h))
+    ∙ ap (λ (x : List ℕ). from ++ x) (drop_of_length-le old (omega (arith, h)))
+    ∙ append-nil from
+
 -- ---- a list that is kept item by item
 
 -- an item for which there is room
@@ -126,11 +135,11 @@ kept_out told out a n = let z = ne_eqb told 0 n in (rw (z), rw (z, z))
 -- ---- a buffer that holds a list
 
 -- a list is read back
-take-padded : (size : ℕ) (l : List ℕ) → take (length l) (padded size l) ≡ l
+pub take-padded : (size : ℕ) (l : List ℕ) → take (length l) (padded size l) ≡ l
 unfolding padded
 take-padded size l = take_at l (zeros (size - length l)) (length l) refl
 
-held-take : (size : ℕ) {a from : List ℕ} {len : ℕ} → Held size a from len → take len from ≡ a
+pub held-take : (size : ℕ) {a from : List ℕ} {len : ℕ} → Held size a from len → take len from ≡ a
 held-take size {a} h = ap₂ {C = List ℕ} take h.count h.buffer ∙ take-padded size a
 
 -- the end of a function that lists: `write_out` was given a buffer that holds a

@@ -52,7 +52,7 @@ impl<const N: usize> Kept<N> {
         }
         let end = self.len + item.len();
         let room = &mut self.bytes[..];
-        room[self.len..end].copy_from_slice(item);
+        lay(item, &mut room[self.len..end]);
         self.len = end;
     }
 
@@ -68,6 +68,17 @@ impl<const N: usize> Kept<N> {
         ensures fits { length result.now ≤ N }
     {
         &self.bytes[..self.len]
+    }
+}
+
+// An item laid in room of its length, byte by byte: `copy_from_slice` reads an item of two bytes back from memory as one number before both
+// are there, and the processor waits for them.
+fn lay(item: &[u8], room: &mut [u8])
+    requires { length room.old ≡ length item.now }
+    ensures { room.new ≡ item.now }
+{
+    for i in 0..item.len() {
+        room[i] = item[i];
     }
 }
 

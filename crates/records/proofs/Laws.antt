@@ -1,5 +1,6 @@
 -- The laws of a record's fields: what digits spell is bounded, where lines end, and tables and tests made place by place. Assumes nothing.
-use mathlib.Core.Path.{◌≡◌, refl, ◌∙◌}
+use mathlib.Core.Path.{◌≡◌, refl, ap, ap₂, sym, ◌∙◌}
+use mathlib.Core.Logic.{◌⊎◌, inl, inr}
 use mathlib.Core.Bool.{Bool, true, false, ◌&&◌, cond}
 use mathlib.Core.List.{List, [], ◌∷◌}
 use Prim.Native.Nat.{ℕ, zero, suc, ◌+◌, ◌-◌, ◌*◌, ◌^◌, ◌≤◌, ◌<◌}
@@ -7,13 +8,16 @@ use native.Mathlib.Nat.{pow-suc, pow-le-pow_right, not-suc-le-zero, le_of_suc-le
 use native.Mathlib.Decide.{ℕ_discrete}
 use native.Mathlib.Numerals.{add-one}
 use native.Mathlib.Omega.{arith}
-use lib.Dec.{leb, eqb}
-use lib.ListN.{length, get_or, set, drop, length-set, length-drop, drop_of_length-le}
+use lib.Dec.{T, leb, ltb, eqb}
+use lib.ListN.{length, get_or, set, drop, length-set, length-drop, drop_of_length-le, get_or-eq_default}
+use Rattle.std.proofs.lemmas.List.{get_or-drop}
 use lib.Seq.{drop-cons, get_or-set_same, get_or-set_other}
 use Rattle.rules.specs.Tools.{tab, all_below}
 use Rattle.rules.proofs.Lists.{is-tab}
-use borrow.Author.Tests.{leb-true, eq-eqb, ne_eqb}
+use Rattle.rules.proofs.Logic.{decide, both_ways, along, and_left, and_right, and_intro, all-elim, all-intro}
+use borrow.Author.Tests.{leb-true, ltb-true, ltb-false, eq-eqb, ne_eqb}
 use Rattle.records.specs.Records.{byte_at, digit_of, hex_spelled, hex_of, length_to, place_from, line_end, line_at}
+use Rattle.records.specs.Bytes.{wanted_at, holds_bytes}
 
 -- ---- digits
 
@@ -141,3 +145,36 @@ below_none f = refl
 pub below_more : (f : ℕ → Bool) (n : ℕ) → f n && all_below n f ≡ all_below (n + 1) f
 unfolding all_below
 below_more f n = rw (add-one n)
+
+-- the front of a page as wanted, and 255 behind it: the page has the wanted bytes
+pub page-parts : (page wanted : List ℕ) (n : ℕ) → n ≤ length page → (n < length page → length wanted ≤ n)
+    → (all_below n (λ i. eqb (byte_at page i) (wanted_at wanted i))
+    && all_below (length (drop n page)) (λ i. eqb (byte_at (drop n page) i) 255)) ≡ holds_bytes page wanted
+unfolding holds_bytes wanted_at
+page-parts page wanted n front all =
+    let f : ℕ → Bool = λ i. eqb (byte_at page i) (get_or wanted i 255) in
+    let g : ℕ → Bool = λ i. eqb (byte_at (drop n page) i) 255 in
+    let m : ℕ = length (drop n page) in
+    let many : m ≡ length page - n = length-drop n page in
+    let same : (i : ℕ) → i < m → g i ≡ f (n + i) = λ i l.
+    ap₂ eqb (get_or-drop n page i 0) (sym (get_or-eq_default wanted 255 (omega (arith, all (omega (arith, many, l)))))) in
+    both_ways (all_below n f && all_below m g) (all_below (length page) f)
+    (λ t.
+    all-intro (length page) f (λ i l.
+    go i l (and_left (all_below n f) (all_below m g) t) (and_right (all_below n f) (all_below m g) t) same many (decide (ltb i n))))
+    (λ t.
+    and_intro (all_below n f) (all_below m g)
+    (all-intro n f (λ i l. all-elim (length page) f t i (omega (arith, l, front))))
+    (all-intro m g (λ i l. along (sym (same i l)) (all-elim (length page) f t (n + i) (omega (arith, l, many))))))
+  where
+    go : (i : ℕ) → i < length page → T (all_below n (λ j. eqb (byte_at page j) (get_or wanted j 255)))
+        → T (all_below (length (drop n page)) (λ j. eqb (byte_at (drop n page) j) 255))
+        → ((j : ℕ) → j < length (drop n page) → eqb (byte_at (drop n page) j) 255 ≡ eqb (byte_at page (n + j)) (get_or wanted (n + j) 255))
+        → length (drop n page) ≡ length page - n → (ltb i n ≡ true) ⊎ (ltb i n ≡ false) → T (eqb (byte_at page i) (get_or wanted i 255))
+    go i l a b same many (inl t) = all-elim n (λ j. eqb (byte_at page j) (get_or wanted j 255)) a i (ltb-true i n t)
+    go i l a b same many (inr t) =
+        let k : n ≤ i = ltb-false i n t in
+        let h : i - n < length (drop n page) = omega (arith, k, l, many) in
+        let e : n + (i - n) ≡ i = omega (arith, k) in
+        along (ap (λ (j : ℕ). eqb (byte_at page j) (get_or wanted j 255)) e)
+        (along (same (i - n) h) (all-elim (length (drop n page)) (λ j. eqb (byte_at (drop n page) j) 255) b (i - n) h))

@@ -1,6 +1,7 @@
 // The lists and the cells that a record has, as bytes, and whether a lent buffer has such bytes.
-ghost use Rattle.std.specs.Prelude.{◌≡◌, length, set};
-ghost use Rattle.rules.specs.Tools.{tab};
+ghost use Rattle.std.specs.Prelude.{◌≡◌, ◌≤◌, eqb, length, set};
+ghost use Rattle.rules.specs.Tools.{tab, all_below};
+ghost use Rattle.records.specs.Records.{byte_at};
 ghost use Rattle.records.specs.Bytes.{bytes_in, spelled_at, cell_in, form_fits, has_form, wanted_at, holds_bytes};
 
 use super::{byte, byte_at};
@@ -103,12 +104,32 @@ fn fits(b: u8, wanted: u8) -> bool
 pub fn holds(page: &[u8], wanted: &[u8]) -> bool
     ensures { result ≡ holds_bytes page.now wanted.now }
 {
-    for i in 0..page.len() {
+    let n = wanted.len().min(page.len());
+    begins(page, wanted, n) && is_unused(&page[n..])
+}
+
+// Whether the first n bytes are as wanted.
+fn begins(page: &[u8], wanted: &[u8], n: usize) -> bool
+    requires { (n ≤ length page.now) × (n ≤ length wanted.now) }
+    ensures { result ≡ all_below n (λ i. eqb (byte_at page.now i) (wanted_at wanted.now i)) }
+{
+    for i in 0..n {
         if page[i] != wanted_at(wanted, i) {
             return false;
         }
     }
     true
+}
+
+// Whether every byte is 255. No byte ends the loop, so that many are compared at once: most of a page is unused.
+fn is_unused(rest: &[u8]) -> bool
+    ensures { result ≡ all_below (length rest.now) (λ i. eqb (byte_at rest.now i) 255) }
+{
+    let mut all = true;
+    for &byte in rest {
+        all &= byte == 255;
+    }
+    all
 }
 
 #[tactic(auto, unfolding(crate::specs::Bytes::wanted_at))]

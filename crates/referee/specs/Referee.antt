@@ -1,4 +1,5 @@
--- Section 5's questions as the code asks them. No public statement cites what is said here of masks or of lines.
+-- Section 5's questions as the code asks them. Of what is said here of masks and of lines, public statements cite `rows_by` and `eye_by`
+-- alone, for lines that may be unsound.
 use Rattle.std.specs.Prelude.{◌≡◌, true, ◌&&◌, cond, List, ℕ, ◌+◌, ◌-◌, ◌*◌, ◌%◌, ◌<◌, T, get_or}
 use Rattle.rules.specs.Tools.{any_below}
 use Rattle.rules.specs.Bit.{bit, mask_of}

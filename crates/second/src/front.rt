@@ -14,7 +14,7 @@ use super::list::{all_rows, forbidden_pairs, four_eyes, point_rows};
 use super::refusal::{colour_refusal_at, forbidden_refusal, rows_refusal, rows_refusal_at};
 use super::verdict::{plain, strict};
 use cells::{cells_refusal, cells_refusal_at};
-use lent::hand_out;
+use lent::{Kept, hand_out};
 use rules::{Code, Player, Refusal, RowKind, Verdict};
 
 // The colour's rows of a kind, by key, then start, four bytes each; and how many there are.
@@ -26,10 +26,12 @@ pub fn rows(cells: &[u8], colour: u8, kind: u8, out: &mut [u8]) -> Result<u16, R
 {
     rows_refusal(cells, colour, kind)?;
     let board = board_of(cells);
-    let found = all_rows(
+    let mut found = Kept::<4320>::new();
+    all_rows(
         &board,
         Player::or_white(colour),
         RowKind::or_overlined(kind),
+        &mut found,
     );
     hand_out(found.as_slice(), (found.len() / 4) as u16, out)
 }

@@ -1,5 +1,5 @@
 // Section 4's and 5's lists, collected line by line and point by point.
-ghost use Rattle.std.specs.Prelude.{◌≡◌, ◌++◌, ◌+◌, ◌<◌, ◌≤◌, length};
+ghost use Rattle.std.specs.Prelude.{◌≡◌, ◌++◌, ◌+◌, ◌<◌, ◌≤◌, [], length};
 ghost use Rattle.rules.specs.Point.{line_no};
 ghost use Rattle.rules.specs.Grid.{rows_of, rows_on_point, line_rows, four_eye, eyes_in, four_eyes};
 ghost use Rattle.rules.specs.Forbidden.{forbidden_list};
@@ -15,11 +15,12 @@ use super::window::Start;
 use lent::Kept;
 use rules::{Code, Key, Player, RowKind, Way};
 
-// The player's rows of the kind, at most 72 lines of 15 starts, four bytes a row. "Rows come by line key, then start".
-pub(crate) fn all_rows(board: &[u8; 225], player: Player, kind: RowKind) -> Kept<4320>
-    ensures { result ≡ rows_of player kind board.now }
+// The player's rows of the kind, at most 72 lines of 15 starts, four bytes a row, put into the caller's empty list: handed up by value it
+// would stand on the stack twice. "Rows come by line key, then start".
+pub(crate) fn all_rows(board: &[u8; 225], player: Player, kind: RowKind, list: &mut Kept<4320>)
+    requires { list.old ≡ [] }
+    ensures { list.new ≡ rows_of player kind board.now }
 {
-    let mut list = Kept::new();
     for key in 0..72u8 {
         let key = Key::new(key).unwrap();
         keep_rows(
@@ -29,10 +30,9 @@ pub(crate) fn all_rows(board: &[u8; 225], player: Player, kind: RowKind) -> Kept
             player,
             kind,
             false,
-            &mut list,
+            list,
         );
     }
-    list
 }
 
 // Those through a point, line by line, at most 4 lines of 15 starts.

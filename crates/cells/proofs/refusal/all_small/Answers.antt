@@ -1,12 +1,12 @@
--- `cells::refusal::all_small` meets its contract: the greatest of the bytes below i is at most 2 where each of them is. Assumes nothing.
-use mathlib.Core.Path.{◌≡◌, refl, ap, ◌∙◌}
+-- `cells::refusal::all_small` meets its contract: the greatest byte so far is at most the limit where each is. Assumes nothing.
+use mathlib.Core.Path.{◌≡◌, ap, ◌∙◌}
 use mathlib.Core.Bool.{Bool, true, false, ◌&&◌}
 use mathlib.Core.Logic.{◌⊎◌, inl, inr}
 use Prim.Native.Nat.{ℕ, max}
 use native.Mathlib.Omega.{arith}
 use lib.Dec.{leb}
 use lib.ListN.{get_or}
-use borrow.Author.Tests.{leb-true, leb-false}
+use borrow.Author.Tests.{le-leb, leb-true, leb-false}
 use Rattle.rules.specs.Depth.{larger}
 use Rattle.rules.specs.Tools.{all_below}
 use Rattle.rules.proofs.Logic.{decide, and-flip, all-step}
@@ -21,18 +21,19 @@ max-larger a b = go (decide (leb a b))
     go (inl t) = let h = leb-true a b t in rw t (omega arith)
     go (inr t) = let h = leb-false a b t in rw t (omega arith)
 
-pub loop-i-init : goal.loop-i-init
+pub loop-byte-init : goal.loop-byte-init
 unfolding all_below
-loop-i-init c = refl
+loop-byte-init c = le-leb 0 c.args.limit (omega arith)
 
-pub loop-i-preserved : goal.loop-i-preserved
-loop-i-preserved c =
-    let cells = c.args.cells.now in
-    let i = c.loop-i.i in
-    let f : ℕ → Bool = λ p. leb (get_or cells p 0) 2 in
-    let most : c.max-most.result ≡ max c.loop-i.most (get_or cells i 0) = omega (arith, c.max-most.ensures) in
-    ap (λ (n : ℕ). leb n 2) (most ∙ max-larger c.loop-i.most (get_or cells i 0))
-    ∙ larger-leb c.loop-i.most (get_or cells i 0) 2
-    ∙ ap (λ (b : Bool). b && f i) c.loop-i.invariant
+pub loop-byte-preserved : goal.loop-byte-preserved
+loop-byte-preserved c =
+    let bytes = c.args.bytes.now in
+    let i = c.loop-byte.byte-index in
+    let limit = c.args.limit in
+    let f : ℕ → Bool = λ p. leb (get_or bytes p 0) limit in
+    let most : c.max-most.result ≡ max c.loop-byte.most (get_or bytes i 0) = omega (arith, c.max-most.ensures) in
+    ap (λ (n : ℕ). leb n limit) (most ∙ max-larger c.loop-byte.most (get_or bytes i 0))
+    ∙ larger-leb c.loop-byte.most (get_or bytes i 0) limit
+    ∙ ap (λ (b : Bool). b && f i) c.loop-byte.invariant
     ∙ and-flip (all_below i f) (f i)
     ∙ all-step i f

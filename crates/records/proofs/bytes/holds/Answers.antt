@@ -1,35 +1,33 @@
--- `records::bytes::holds` meets its contract: the page is as wanted before i. Assumes nothing.
-use mathlib.Core.Path.{◌≡◌, sym, ◌∙◌}
-use mathlib.Core.Bool.{Bool}
-use Prim.Native.Nat.{ℕ}
+-- `records::bytes::holds` meets its contract: the front is as wanted, and what is behind it unused. Assumes nothing.
+use mathlib.Core.Path.{◌≡◌, ap, sym, ◌∙◌}
+use mathlib.Core.Bool.{Bool, ◌&&◌}
+use mathlib.Core.List.{List}
+use Prim.Native.Nat.{ℕ, ◌-◌}
 use native.Mathlib.Omega.{arith}
 use lib.Dec.{eqb}
-use lib.ListN.{length}
-use borrow.Author.Tests.{eq-eqb, ne_eqb}
-use Rattle.rules.proofs.Logic.{all-fails}
+use lib.ListN.{length, take, drop, length-drop}
+use Rattle.std.proofs.lemmas.List.{take_all}
+use Rattle.rules.specs.Tools.{all_below}
 use Rattle.records.specs.Records.{byte_at}
-use Rattle.records.proofs.Laws.{below_none, below_more}
-use Rattle.records.specs.Bytes.{wanted_at, holds_bytes}
+use Rattle.records.proofs.Laws.{page-parts}
 use Rattle.records.proofs.bytes.holds.Goals as goal
 
-pub loop-i-init : goal.loop-i-init
-loop-i-init c = sym (below_none _)
+pub returns-then-begins : goal.returns-then-begins
+returns-then-begins c =
+    let page = c.args.page.now in
+    let n = c.min-n.result in
+    let rest : Bool = all_below (length (drop n page)) (λ i. eqb (byte_at (drop n page) i) 255) in
+    let whole : take (length page - n) (drop n page) ≡ drop n page = take_all (length page - n) (drop n page) (omega (arith, length-drop n page)) in
+    c.is_unused.ensures
+    ∙ ap (λ (l : List ℕ). all_below (length l) (λ i. eqb (byte_at l i) 255)) whole
+    ∙ sym (ap (λ (b : Bool). b && rest) (sym c.begins.ensures ∙ c.if-begins.true))
+    ∙ page-parts page c.args.wanted.now n (omega (arith, c.min-n.ensures)) (λ l. omega (arith, c.min-n.ensures, l))
 
-pub returns-then-page-i : goal.returns-then-page-i
-unfolding holds_bytes
-returns-then-page-i c =
-    let a = c.args in
-    let f : ℕ → Bool = (λ j. eqb (byte_at a.page.now j) (wanted_at a.wanted.now j)) in
-    sym (all-fails (length a.page.now) f c.loop-i.i (omega arith) (ne_eqb _ _ (λ e. c.if-page-i.true (e ∙ sym c.wanted_at.ensures))))
-
-pub loop-i-preserved : goal.loop-i-preserved
-loop-i-preserved c =
-    let a = c.args in
-    let f : ℕ → Bool = (λ j. eqb (byte_at a.page.now j) (wanted_at a.wanted.now j)) in
-    sym (below_more f c.loop-i.i) ∙ rw (c.loop-i.invariant, eq-eqb _ _ (c.if-page-i.false ∙ c.wanted_at.ensures))
-
-pub returns : goal.returns
-unfolding holds_bytes
-returns c =
-    let e : c.loop-i.i ≡ length c.args.page.now = omega arith in
-    sym (rw e at c.loop-i.invariant)
+pub returns-else-begins : goal.returns-else-begins
+returns-else-begins c =
+    let page = c.args.page.now in
+    let n = c.min-n.result in
+    let rest : Bool = all_below (length (drop n page)) (λ i. eqb (byte_at (drop n page) i) 255) in
+    c.if-begins.false
+    ∙ sym (ap (λ (b : Bool). b && rest) (sym c.begins.ensures ∙ c.if-begins.false))
+    ∙ page-parts page c.args.wanted.now n (omega (arith, c.min-n.ensures)) (λ l. omega (arith, c.min-n.ensures, l))

@@ -19,5 +19,5 @@ board_of-board-requires c =
 pub returns : goal.returns
 returns c =
     let listed = c.as_slice.ensures.value in
-    handed 4 _ _ _ (unrefused _ c.rows_refusal.ensures c.in_ok-rows_refusal.was) (listed ∙ c.all_rows-found.ensures ∙ rw (c.or_white.ensures, c.or_overlined.ensures, c.board_of-board.ensures))
+    handed 4 _ _ _ (unrefused _ c.rows_refusal.ensures c.in_ok-rows_refusal.was) (listed ∙ c.all_rows.ensures ∙ rw (c.or_white.ensures, c.or_overlined.ensures, c.board_of-board.ensures))
     (omega (arith, c.len.ensures.value, ap length listed)) c.hand_out.ensures

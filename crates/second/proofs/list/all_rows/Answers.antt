@@ -16,7 +16,7 @@ use Rattle.second.proofs.list.all_rows.Goals as goal
 pub loop-key-init : goal.loop-key-init
 loop-key-init c =
     let a = c.args in
-    c.new-list.ensures ∙ sym (gather_none (key_rows a.player a.kind a.board.now))
+    c.requires ∙ sym (gather_none (key_rows a.player a.kind a.board.now))
 
 pub keep_rows-requires : goal.keep_rows-requires
 keep_rows-requires c =
