@@ -39,8 +39,8 @@ pub fn codes_refusal(codes: &[u8]) -> Result<(), Refusal>
     Ok(())
 }
 
-// What is refused of the moves of a game: ManyMoves for more than 225 of them, then NoPoint, as `codes_refusal` says, which tests one code
-// after the other: so few are compared at once.
+// What is refused of the moves of a game: ManyMoves for more than 225 of them, then NoPoint. Those that are left are few enough to be compared
+// at once; `codes_refusal`, of a list of any length, ends at the first that is no point's.
 #[tactic(auto, using(crate::proofs::Given::codes_small), unfolding(rules::specs::Answers::answer, rules::specs::Refusals::first, rules::specs::Refusals::unless, crate::specs::Cells::moves_refusal, crate::specs::Cells::codes_refusal))]
 pub fn moves_refusal(moves: &[u8]) -> Result<(), Refusal>
     ensures { result ≡ checked (moves_refusal moves.now) }

@@ -71,8 +71,8 @@ impl<const N: usize> Kept<N> {
     }
 }
 
-// An item laid in room of its length, byte by byte: `copy_from_slice` reads an item of two bytes back from memory as one number before both
-// are there, and the processor waits for them.
+// An item laid in room of its length, byte by byte. `copy_from_slice` would read an item of two bytes back as one number while both stores are
+// under way, and the processor would wait for them.
 fn lay(item: &[u8], room: &mut [u8])
     requires { length room.old ≡ length item.now }
     ensures { room.new ≡ item.now }

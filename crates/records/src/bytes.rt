@@ -114,7 +114,7 @@ fn begins(page: &[u8], wanted: &[u8], n: usize) -> bool
     ensures { result ≡ all_below n (λ i. eqb (byte_at page.now i) (wanted_at wanted.now i)) }
 {
     for i in 0..n {
-        if page[i] != wanted_at(wanted, i) {
+        if page[i] != wanted[i] {
             return false;
         }
     }
@@ -130,11 +130,4 @@ fn is_unused(rest: &[u8]) -> bool
         all &= byte == 255;
     }
     all
-}
-
-#[tactic(auto, unfolding(crate::specs::Bytes::wanted_at))]
-fn wanted_at(wanted: &[u8], i: usize) -> u8
-    ensures { result ≡ wanted_at wanted.now i }
-{
-    if i < wanted.len() { wanted[i] } else { 255 }
 }

@@ -30,7 +30,8 @@ pub fn eye_on(lines: &[u16; 144], table: &Table, code: Code, three: Three) -> u8
     walked(p, here.cell, step_in(d), gap)
 }
 
-// From a point back to its line's first cell, and on to another cell. The sums wrap, which on sound lines none does.
+// From a point back to its line's first cell, and on to another cell. The sums wrap, which none does where the lines are sound and the Three
+// is there.
 #[tactic(auto, unfolding(crate::specs::Referee::walk_by))]
 fn walked(code: u8, cell: u8, step: u8, to: u8) -> u8
     ensures { result ≡ walk_by code (cell * step) (to * step) }
